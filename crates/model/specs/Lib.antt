@@ -1,0 +1,13 @@
+pub mod Lists
+pub mod Refusal
+pub mod TransitionSystem
+pub mod Machine
+pub mod Region
+pub mod Bytes
+pub mod Reading
+pub mod Form
+pub mod Text
+pub mod Table
+pub mod Services
+pub mod Demands
+pub mod Examples

@@ -1,0 +1,1 @@
+// The model has no code: its definitions (specs/) and theorems (proofs/) are what the crates above cite.
