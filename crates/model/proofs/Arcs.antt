@@ -1,45 +1,21 @@
 -- Places by number, and the machine's transitions between them: `move` is the arc of 000, section 2.4.
 use Prim.Native.Nat.{ℕ, zero, suc, _<_, _≤_}
-use native.Mathlib.Omega.{arith}
-use mathlib.Core.Path.{_≡_, refl, ap, ap₂, sym, _∙_, subst}
-use mathlib.Core.Logic.{_⊎_, inl, inr, _↔_}
-use mathlib.Core.Bool.{Bool, not}
-use mathlib.Core.List.{List, [], _∷_, flatten, List·Memᴰ, List·Memᴰ·head, List·Memᴰ·tail}
-use mathlib.Core.Option.{Option, none, some, Option·some-injective, Option·none-ne-some}
+use mathlib.Core.Path.{_≡_, ap, ap₂, sym, _∙_, subst}
+use mathlib.Core.Logic.{_↔_}
+use mathlib.Core.Bool.{not}
+use mathlib.Core.List.{List, [], _∷_, flatten, List·Memᴰ}
+use mathlib.Core.Option.{none, some, Option·some-injective, Option·none-ne-some}
 use lib.Dec.{T, eqb}
-use lib.ListN.{length}
 use Rattle.model.specs.Lists.{At, count, elem}
 use Rattle.model.specs.TransitionSystem.{Transition, TransitionSystem}
 use Rattle.model.specs.Machine.{Place, Machine, Move, placeIn, placeOf, move}
 use Rattle.model.specs.Region.{statesOf, InPlace, Arc, HasEvent, IsRegion}
 use Rattle.model.proofs.Laws.{not-T, contra}
+use Rattle.model.proofs.Positions.{at-mem, mem-at}
 use Rattle.model.proofs.Bounds.{Within, Listed}
 use Rattle.model.proofs.Places.{Good, at-head, at-tail, not-in-head, once-tail, elem-flatten, Home, home, same-place, same-pre, same-post}
 use Rattle.model.proofs.Moves.{MoveView, moves, stays, move-view, moveOf}
 use Rattle.model.proofs.Regions.{elem-same, uniform-region}
-
-module _ {A : Type 0} where
-  pub at-mem : (l : List A) (k : ℕ) (x : A) → At l k x → List·Memᴰ x l
-  at-mem [] k x h = absurd (Option·none-ne-some x h)
-  at-mem (y ∷ l) zero x h = List·Memᴰ·head (sym (Option·some-injective y x h))
-  at-mem (y ∷ l) (suc k) x h = List·Memᴰ·tail (at-mem l k x h)
-
-  pub mem-at : (l : List A) (x : A) → List·Memᴰ x l → (k : ℕ) × At l k x
-  mem-at (y ∷ l) x (List·Memᴰ·head e) = (0, ap {B = Option A} some (sym e))
-  mem-at (y ∷ l) x (List·Memᴰ·tail i) = let w = mem-at l x i in (suc (w .0), w .1)
-
-  pub at-low : (l : List A) (k : ℕ) (x : A) → At l k x → k < length l
-  at-low [] k x h = absurd (Option·none-ne-some x h)
-  at-low (y ∷ l) zero x h = omega arith
-  at-low (y ∷ l) (suc k) x h = omega (arith, at-low l k x h)
-
-  pub low-at : (l : List A) (k : ℕ) → k < length l → (x : A) × At l k x
-  low-at [] k h = absurd (omega arith)
-  low-at (y ∷ l) zero h = (y, refl)
-  low-at (y ∷ l) (suc k) h = low-at l k (omega arith)
-
-  pub at-same : (l : List A) (k : ℕ) (x y : A) → At l k x → At l k y → x ≡ y
-  at-same l k x y p q = Option·some-injective x y (sym p ∙ q)
 
 -- the number of the place that contains a state
 pub place-number : (ps : List Place) (q : ℕ) (r : Place) (s : ℕ) → At ps q r → T (elem s r) → count (eqb s) (flatten ps) ≤ 1 → placeIn ps s ≡ q

@@ -1,13 +1,13 @@
--- Laws of the tests and searches of specs/Base.antt. Assumes nothing.
+-- Laws of the tests and searches of specs/Lists.antt. Assumes nothing.
 use Prim.Native.Nat.{ℕ, zero, suc, _<_, _≤_, suc-le-suc}
 use native.Mathlib.Nat.{not-suc-le-zero}
 use native.Mathlib.Omega.{arith}
 use mathlib.Core.Path.{_≡_, refl, ap, sym, _∙_, subst}
-use mathlib.Core.Logic.{_⊎_, inl, inr, _↔_}
+use mathlib.Core.Logic.{_⊎_, inl, inr}
 use mathlib.Core.Bool.{Bool, true, false, not, cond, _&&_, _||_}
-use mathlib.Core.List.{List, [], _∷_, _++_, List·Memᴰ, List·Memᴰ·head, List·Memᴰ·tail}
-use mathlib.Core.Option.{Option, none, some, Option·map, Option·none-ne-some, Option·some-ne-none, orElse}
-use lib.Dec.{T, eqb, eqb→eq, eqb-refl, T-not}
+use mathlib.Core.List.{List, [], _∷_, List·Memᴰ, List·Memᴰ·head, List·Memᴰ·tail}
+use mathlib.Core.Option.{Option, none, some, Option·map, Option·some-ne-none, orElse}
+use lib.Dec.{T, eqb, eqb→eq, eqb-refl, ltb, ltb→lt, T-not}
 use Rattle.model.specs.Lists.{exists, every, first, satisfying, isSome, lowest}
 
 -- tests
@@ -51,6 +51,26 @@ pub or-e : (a b : Bool) → T (a || b) → T a ⊎ T b
 or-e true b t = inl tt
 or-e false b t = inr t
 
+pub or-false-l : (a b : Bool) → (a || b) ≡ false → a ≡ false
+or-false-l true b e = e
+or-false-l false b e = refl
+
+pub or-false-r : (a b : Bool) → (a || b) ≡ false → b ≡ false
+or-false-r true b e = let z : _≡_ {A = ℕ} 0 1 = cc in absurd (omega arith)
+or-false-r false b e = e
+
+pub and-not : (a b : Bool) → T (not (a && b)) → T (not a) ⊎ T (not b)
+and-not true b t = inr t
+and-not false b t = inl tt
+
+pub or-not-l : (a b : Bool) → T (not (a || b)) → T (not a)
+or-not-l true b t = t
+or-not-l false b t = tt
+
+pub or-not-r : (a b : Bool) → T (not (a || b)) → T (not b)
+or-not-r true b t = absurd t
+or-not-r false b t = t
+
 pub contra : (b : Bool) → T (not b) → T b → ⊥
 contra = T-not
 
@@ -69,8 +89,40 @@ neqb m n h = go (dec (eqb m n))
     go (inl t) = absurd (h (eqb→eq m n t))
     go (inr t) = t
 
+pub not-below : (m n : ℕ) → n ≤ m → T (not (ltb m n))
+not-below m n h = not-T (ltb m n) (λ t. omega (arith, ltb→lt m n t))
+
 pub eqb-of : (m n : ℕ) → m ≡ n → T (eqb m n)
 eqb-of m n e = subst (λ (k : ℕ). T (eqb m k)) e (eqb-refl m)
+
+-- the order of numbers
+pub order : (a b : ℕ) → (a < b) ⊎ (b ≤ a)
+order zero zero = inr (omega arith)
+order zero (suc b) = inl (omega arith)
+order (suc a) zero = inr (omega arith)
+order (suc a) (suc b) = up (order a b)
+  where
+    up : (a < b) ⊎ (b ≤ a) → (suc a < suc b) ⊎ (suc b ≤ suc a)
+    up (inl x) = inl (omega arith)
+    up (inr x) = inr (omega arith)
+
+pub not-lt : (a b : ℕ) → ¬ (a < b) → b ≤ a
+not-lt a b h = go (order a b)
+  where
+    go : (a < b) ⊎ (b ≤ a) → b ≤ a
+    go (inl x) = absurd (h x)
+    go (inr x) = x
+
+pub not-le : (a b : ℕ) → ¬ (a ≤ b) → b < a
+not-le a b h = go (order b a)
+  where
+    go : (b < a) ⊎ (a ≤ b) → b < a
+    go (inl x) = x
+    go (inr x) = absurd (h x)
+
+pub neither : {A B : Type 0} → ¬ A → ¬ B → ¬ (A ⊎ B)
+neither f g (inl a) = f a
+neither f g (inr b) = g b
 
 module _ {A : Type 0} where
   pub cond-true : (b : Bool) (x y : A) → T b → cond b x y ≡ x
@@ -80,6 +132,18 @@ module _ {A : Type 0} where
   pub cond-false : (b : Bool) (x y : A) → T (not b) → cond b x y ≡ y
   cond-false true x y t = absurd t
   cond-false false x y t = refl
+
+-- no element passes
+module _ {A : Type 0} (f : A → Bool) where
+  pub none-exist : (l : List A) → ((x : A) → List·Memᴰ x l → f x ≡ false) → exists f l ≡ false
+  unfolding exists
+  none-exist [] h = refl
+  none-exist (y ∷ l) h = rw (h y (List·Memᴰ·head refl)) (none-exist l (λ x m. h x (List·Memᴰ·tail m)))
+
+  pub exist-none : (l : List A) → exists f l ≡ false → (x : A) → List·Memᴰ x l → f x ≡ false
+  unfolding exists
+  exist-none (y ∷ l) e x (List·Memᴰ·head p) = ap f p ∙ or-false-l (f y) (exists f l) e
+  exist-none (y ∷ l) e x (List·Memᴰ·tail m) = exist-none l (or-false-r (f y) (exists f l) e) x m
 
 module _ {A : Type 0} where
   -- lists
@@ -121,12 +185,14 @@ module _ {A : Type 0} where
   every-intro f [] h = tt
   every-intro f (y ∷ l) h = and-i (f y) (every f l) (h y (List·Memᴰ·head refl)) (every-intro f l (λ x m. h x (List·Memᴰ·tail m)))
 
-  pub not-every : (f : A → Bool) (l : List A) (x : A) → List·Memᴰ x l → T (not (f x)) → T (not (every f l))
-  not-every f l x m n = go (dec (every f l))
+  pub not-every-elim : (f : A → Bool) (l : List A) → T (not (every f l)) → (x : A) × List·Memᴰ x l × T (not (f x))
+  unfolding every
+  not-every-elim f [] t = absurd t
+  not-every-elim f (y ∷ l) t = go (dec (f y)) (not-every-elim f l)
     where
-      go : T (every f l) ⊎ T (not (every f l)) → T (not (every f l))
-      go (inl t) = absurd (contra (f x) n (every-elim f l t x m))
-      go (inr t) = t
+      go : T (f y) ⊎ T (not (f y)) → (T (not (every f l)) → (x : A) × List·Memᴰ x l × T (not (f x))) → (x : A) × List·Memᴰ x (y ∷ l) × T (not (f x))
+      go (inl u) ih = let w = ih (not-and (f y) (every f l) t u) in (w .0, List·Memᴰ·tail (w .1), w .2)
+      go (inr u) ih = (y, List·Memᴰ·head refl, u)
 
   -- what `first` finds
   pub data First (f : A → Bool) (l : List A) : Type 0 where
@@ -240,43 +306,3 @@ none-lowest f n a = go (lowest-view f n)
     go : Lowest f n → lowest f n ≡ none
     go (found j p l t h) = absurd (contra (f j) (a j l) t)
     go (absent p h) = p
-
--- for a loop upwards that stops at the first number that passes
-pub lowest-found : (f : ℕ → Bool) (n k : ℕ) → k < n → T (f k) → ((j : ℕ) → j < k → T (not (f j))) → lowest f n ≡ some k
-lowest-found f n k l t h = go (lowest-view f n)
-  where
-    same : (i : ℕ) → T (f i) → ((j : ℕ) → j < i → T (not (f j))) → i ≡ k
-    same i u g = pick (order i k)
-      where
-        order : (a b : ℕ) → (a < b) ⊎ ((a ≡ b) ⊎ (b < a))
-        order zero zero = inr (inl refl)
-        order zero (suc b) = inl (omega arith)
-        order (suc a) zero = inr (inr (omega arith))
-        order (suc a) (suc b) = up (order a b)
-          where
-            up : (a < b) ⊎ ((a ≡ b) ⊎ (b < a)) → (suc a < suc b) ⊎ ((suc a ≡ suc b) ⊎ (suc b < suc a))
-            up (inl x) = inl (omega arith)
-            up (inr (inl x)) = inr (inl (omega arith))
-            up (inr (inr x)) = inr (inr (omega arith))
-
-        pick : (i < k) ⊎ ((i ≡ k) ⊎ (k < i)) → i ≡ k
-        pick (inl x) = absurd (contra (f i) (h i x) u)
-        pick (inr (inl x)) = x
-        pick (inr (inr x)) = absurd (contra (f k) (g k x) t)
-
-    go : Lowest f n → lowest f n ≡ some k
-    go (found i e b u g) = e ∙ ap some (same i u g)
-    go (absent e g) = absurd (contra (f k) (g k l) t)
-
--- two tests that agree below n
-pub lowest-same : (f g : ℕ → Bool) (n : ℕ) → ((k : ℕ) → k < n → f k ≡ g k) → lowest f n ≡ lowest g n
-unfolding lowest
-lowest-same f g zero h = refl
-lowest-same f g (suc n) h = rw (lowest-same f g n (λ k l. h k (omega arith)), h n (omega arith))
-
--- two tests that pass together are equal
-pub T-same : (a b : Bool) → (T a → T b) → (T b → T a) → a ≡ b
-T-same true true p q = refl
-T-same true false p q = absurd (p tt)
-T-same false true p q = absurd (q tt)
-T-same false false p q = refl

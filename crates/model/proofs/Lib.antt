@@ -1,12 +1,35 @@
--- The theorems about the definitions of specs/.
+-- The theorems about the definitions of specs/, the demands last.
 pub mod Laws
+pub mod ListLaws
+pub mod Positions
+pub mod Counting
 pub mod Bounds
 pub mod Places
 pub mod Moves
 pub mod Simulate
 pub mod Reach
-pub mod Converse
+pub mod Passed
 pub mod Thinning
 pub mod Running
 pub mod Regions
 pub mod Arcs
+pub mod Standing
+pub mod Product
+pub mod Sheets
+pub mod Faith
+pub mod Kept
+pub mod Differs
+pub mod Words
+pub mod Lines
+pub mod Chains
+pub mod Values
+pub mod Order
+pub mod Whole
+pub mod Precedence
+pub mod Limits
+pub mod Rows
+pub mod Verdicts
+pub mod Lending
+pub mod Naming
+pub mod Refusing
+pub mod Demands

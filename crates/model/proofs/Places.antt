@@ -1,40 +1,19 @@
 -- A machine whose places list each state once and are even: all transitions of an event on it lead from one place to one place.
-use Prim.Native.Nat.{ℕ, zero, suc, _+_, _<_, _≤_, zero-le, suc-le-suc}
+use Prim.Native.Nat.{ℕ, suc, _<_, _≤_}
 use native.Mathlib.Omega.{arith}
 use mathlib.Core.Path.{_≡_, refl, ap, sym, _∙_, subst}
 use mathlib.Core.Logic.{_⊎_, inl, inr}
-use mathlib.Core.Bool.{Bool, true, false, not, cond, _&&_, _||_}
+use mathlib.Core.Bool.{Bool, not, _||_}
 use mathlib.Core.List.{List, [], _∷_, _++_, List·Memᴰ, List·Memᴰ·head, List·Memᴰ·tail, flatten}
-use mathlib.Core.Option.{Option, none, some, Option·map, orElse}
-use lib.Dec.{T, eqb, ltb, eqb→eq, eqb-refl, nltb→le}
+use mathlib.Core.Option.{none, Option·map, orElse}
+use lib.Dec.{T, eqb, nltb→le}
 use Rattle.model.specs.Lists.{exists, every, index, count, elem}
 use Rattle.model.specs.Refusal.{refuse}
 use Rattle.model.specs.TransitionSystem.{Transition, TransitionSystem}
 use Rattle.model.specs.Machine.{Place, Machine, placeIn, placeOf, transitionsOf, duplicated, uncovered, enters, exits, allOrNone, uniform, nonuniform, machineRefusal}
-use Rattle.model.proofs.Laws.{dec, not-not, T-true, T-false, and-l, and-r, and-i, or-l, or-r, or-e, contra, eqb-of, cond-true, cond-false, exists-intro, every-elim, satisfying-intro, orElse-none, map-none, lowest-none}
+use Rattle.model.proofs.Laws.{dec, not-not, and-l, and-r, and-i, or-l, or-r, or-e, contra, eqb-of, cond-true, cond-false, exists-intro, every-elim, satisfying-intro, orElse-none, map-none, lowest-none}
+use Rattle.model.proofs.Counting.{count-append, count-some}
 use Rattle.model.proofs.Bounds.{Within}
-
--- occurrences
-count-append : (f : ℕ → Bool) (xs ys : List ℕ) → count f (xs ++ ys) ≡ count f xs + count f ys
-unfolding count
-count-append f [] ys = omega arith
-count-append f (x ∷ xs) ys = go (dec (f x)) (count-append f xs ys)
-  where
-    go :
-        T (f x) ⊎ T (not (f x))
-        → count f (xs ++ ys) ≡ count f xs + count f ys
-        → cond (f x) (suc (count f (xs ++ ys))) (count f (xs ++ ys)) ≡ cond (f x) (suc (count f xs)) (count f xs) + count f ys
-    go (inl t) ih = rw (T-true (f x) t) (omega arith)
-    go (inr t) ih = rw (T-false (f x) t) ih
-
-pub count-pos : (f : ℕ → Bool) (xs : List ℕ) → T (exists f xs) → 1 ≤ count f xs
-unfolding count exists
-count-pos f [] t = absurd t
-count-pos f (x ∷ xs) t = go (dec (f x)) (count-pos f xs)
-  where
-    go : T (f x) ⊎ T (not (f x)) → (T (exists f xs) → 1 ≤ count f xs) → 1 ≤ cond (f x) (suc (count f xs)) (count f xs)
-    go (inl u) ih = rw (T-true (f x) u) (omega arith)
-    go (inr u) ih = rw (T-false (f x) u) (ih (rw (T-false (f x) u) at t))
 
 exists-append-l : (f : ℕ → Bool) (xs ys : List ℕ) → T (exists f xs) → T (exists f (xs ++ ys))
 unfolding exists
@@ -103,7 +82,7 @@ unfolding flatten elem
 not-in-head p m s h t = go (dec (elem s p))
   where
     go : T (elem s p) ⊎ T (not (elem s p)) → T (not (elem s p))
-    go (inl u) = absurd (omega (arith, count-append (eqb s) p (flatten m), count-pos (eqb s) p u, count-pos (eqb s) (flatten m) t))
+    go (inl u) = absurd (omega (arith, count-append (eqb s) p (flatten m), count-some (eqb s) p u, count-some (eqb s) (flatten m) t))
     go (inr u) = u
 
 pub same-place :

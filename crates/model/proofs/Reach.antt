@@ -3,9 +3,9 @@ use Prim.Native.Nat.{ℕ, zero, suc, _<_, _≤_}
 use native.Mathlib.Omega.{arith}
 use mathlib.Core.Path.{_≡_, refl, ap, sym, _∙_, subst}
 use mathlib.Core.Logic.{_⊎_, inl, inr}
-use mathlib.Core.Bool.{Bool, true, false, not, cond, _&&_, _||_}
+use mathlib.Core.Bool.{Bool, true, false, not, cond}
 use mathlib.Core.List.{List, [], _∷_, _++_, List·Memᴰ, List·Memᴰ·head, List·Memᴰ·tail, Memᴰ·append-left, Memᴰ·append-right}
-use mathlib.Core.Option.{Option, none, some, Option·map, Option·some-ne-none, Option·none-ne-some}
+use mathlib.Core.Option.{Option, none, some, Option·some-ne-none}
 use lib.Dec.{T, eqb, ltb, eqb→eq, eqb-refl, lt→ltb}
 use Rattle.model.specs.Lists.{exists, every, first, elem}
 use Rattle.model.specs.TransitionSystem.{Transition, TransitionSystem, leads, systemStep, runs, andThen, systemRuns, declared, transitionRefusal, transitionsRefusal, leavesSet, withTarget, grown, reached}
@@ -34,7 +34,7 @@ no-earlier before (y ∷ ts) n u (List·Memᴰ·head e) w k =
     (cond-none (eqb (y .source) (y .target)) _ _ (orElse-none _ _ n .0) .1) .0) w k)
 no-earlier before (y ∷ ts) n u (List·Memᴰ·tail i) w k = no-earlier (before ++ (y ∷ [])) ts (orElse-none _ _ n .1) u i w (Memᴰ·append-left (y ∷ []) k)
 
-same-start : (t u : Transition) → t .source ≡ u .source → t .event ≡ u .event → T (leads (u .source) (u .event) t)
+pub same-start : (t u : Transition) → t .source ≡ u .source → t .event ≡ u .event → T (leads (u .source) (u .event) t)
 unfolding leads
 same-start t u p q = and-i (eqb (t .source) (u .source)) (eqb (t .event) (u .event)) (eqb-of (t .source) (u .source) p) (eqb-of (t .event) (u .event) q)
 

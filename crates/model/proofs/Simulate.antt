@@ -1,11 +1,11 @@
 -- The machines of an accepted decomposition run together exactly as the transition system runs.
-use Prim.Native.Nat.{ℕ, zero, suc, _<_}
+use Prim.Native.Nat.{ℕ, _<_}
 use mathlib.Core.Path.{_≡_, refl, ap, sym, _∙_, subst}
 use mathlib.Core.Logic.{_⊎_, inl, inr}
-use mathlib.Core.Bool.{Bool, true, false, not, cond, _&&_}
-use mathlib.Core.List.{List, [], _∷_, _++_, map, List·Memᴰ, List·Memᴰ·head, List·Memᴰ·tail}
-use mathlib.Core.Option.{Option, none, some, Option·map, Option·some-ne-none, Option·none-ne-some, Option·some-injective}
-use lib.Dec.{T, eqb, eqb→eq, eqb-refl}
+use mathlib.Core.Bool.{not, _&&_}
+use mathlib.Core.List.{List, [], _∷_, List·Memᴰ, List·Memᴰ·head, List·Memᴰ·tail}
+use mathlib.Core.Option.{Option, none, some, Option·map, Option·none-ne-some, Option·some-injective}
+use lib.Dec.{T, eqb, eqb→eq}
 use Rattle.model.specs.Lists.{every, isSome}
 use Rattle.model.specs.TransitionSystem.{Transition, TransitionSystem, leads, systemStep, runs, andThen}
 use Rattle.model.specs.Machine.{Machine, Decomposition, placeOf, places, inAlphabet, effective, fire, both, fireAll, productStep, ineffective, ready, common, excited, excess, openEvent, closureRefusal, coverRefusal}
@@ -46,7 +46,7 @@ fires-all p e s (m ∷ ms) n =
     let rest = fires-all p e s ms (and-r (ready p e s m) (common p ms e s) n) in
     (here .0 ∷ rest .0, rw (here .1, rest .1))
 
--- what `planStep` is
+-- what `systemStep` is
 pub data SystemView (p : TransitionSystem) (s e : ℕ) : Type 0 where
   fires : (t : Transition) → systemStep p s e ≡ some (t .target) → List·Memᴰ t (p .transitions) → t .source ≡ s → t .event ≡ e → SystemView p s e
   stuck : systemStep p s e ≡ none → T (not (excited p e s)) → SystemView p s e

@@ -1,11 +1,11 @@
 -- Thinning keeps machines that pass 11 and 12, and no machine that could still be dropped.
 use Prim.Native.Nat.{ℕ, zero, suc, _<_, _≤_}
 use native.Mathlib.Omega.{arith}
-use mathlib.Core.Path.{_≡_, refl, ap, sym, _∙_, subst}
+use mathlib.Core.Path.{_≡_, refl, ap, subst}
 use mathlib.Core.Logic.{_⊎_, inl, inr}
-use mathlib.Core.Bool.{Bool, true, false, not, cond, _&&_}
+use mathlib.Core.Bool.{Bool, true, false, not}
 use mathlib.Core.List.{List, [], _∷_, List·Memᴰ, List·Memᴰ·head, List·Memᴰ·tail}
-use mathlib.Core.Option.{Option, none, some}
+use mathlib.Core.Option.{none}
 use lib.Dec.{T}
 use lib.ListN.{length, replicate, set, getD}
 use Rattle.model.specs.Lists.{isEmpty, isSome}
@@ -13,7 +13,7 @@ use Rattle.model.specs.TransitionSystem.{TransitionSystem}
 use Rattle.model.specs.Machine.{Machine, Decomposition, inAlphabet, effective, ready, common, excited, coverRefusal, select, suffices, tryDrop, thinBelow, irredundant}
 use Rattle.model.proofs.Laws.{dec, not-T, contra, and-l, and-r, and-i, cond-true, cond-false, exists-intro, exists-elim, every-intro, every-elim, isSome-none, none-isSome, below-suc}
 use Rattle.model.proofs.Simulate.{Covers, covers-of}
-use Rattle.model.proofs.Converse.{covers-none}
+use Rattle.model.proofs.Passed.{covers-none}
 
 abbrev pub nonEmpty : Decomposition → Bool
 nonEmpty ms = not (isEmpty ms)
@@ -139,7 +139,7 @@ pub data Tried (p : TransitionSystem) (ms : Decomposition) (k : ℕ) (keep : Lis
   dropped : tryDrop p ms k keep ≡ set keep k false → T (suffices p (select (set keep k false) ms)) → Tried p ms k keep
   kept-it : tryDrop p ms k keep ≡ keep → T (not (suffices p (select (set keep k false) ms))) → Tried p ms k keep
 
-tried : (p : TransitionSystem) (ms : Decomposition) (k : ℕ) (keep : List Bool) → Tried p ms k keep
+pub tried : (p : TransitionSystem) (ms : Decomposition) (k : ℕ) (keep : List Bool) → Tried p ms k keep
 unfolding tryDrop
 tried p ms k keep = go (dec (suffices p (select (set keep k false) ms)))
   where
@@ -197,7 +197,7 @@ drop-one (false ∷ ks) (m ∷ ms) zero = omega arith
 drop-one (true ∷ ks) (m ∷ ms) (suc i) = omega (arith, drop-one ks ms i)
 drop-one (false ∷ ks) (m ∷ ms) (suc i) = drop-one ks ms i
 
-nonEmpty-length : (ms : Decomposition) → 0 < length ms → T (nonEmpty ms)
+pub nonEmpty-length : (ms : Decomposition) → 0 < length ms → T (nonEmpty ms)
 unfolding isEmpty
 nonEmpty-length [] h = absurd (omega arith)
 nonEmpty-length (m ∷ ms) h = tt

@@ -59,11 +59,11 @@ pub data Offence (v : Input) : Refusal → Type 0 where
   unused : (e : ℕ) → e < length (v .names) → ((t : Transition) → List·Memᴰ t (v .transitions) → ¬ (t .event ≡ e)) → Offence v (refuse 6 e 0)
   unreached : (s : ℕ) → s < v .states → ((es : List ℕ) → ¬ Walk (system v) (v .initial) es s) → Offence v (refuse 7 s 0)
   duplicate : (k : ℕ) (m : Machine) (s : ℕ) → At (v .machines) k m → Twice s (flatten (m .places)) → Offence v (refuse 8 k s)
-  uncovered : (k : ℕ) (m : Machine) (s : ℕ) → At (v .machines) k m → s < v .states
+  no-place : (k : ℕ) (m : Machine) (s : ℕ) → At (v .machines) k m → s < v .states
       → ((r : Place) → List·Memᴰ r (m .places) → ¬ T (elem s r)) → Offence v (refuse 9 k s)
   no-region : (k : ℕ) (m : Machine) (e : ℕ) (r : Place) → At (v .machines) k m → e < length (v .names) → List·Memᴰ r (m .places)
       → ¬ RegionFor (system v) e (statesOf r) → Offence v (refuse 10 k e)
-  ineffective : (e : ℕ) → e < length (v .names) → ((r : Place) → ¬ PrePlace (system v) (v .machines) e r) → Offence v (refuse 11 e 0)
+  on-no-machine : (e : ℕ) → e < length (v .names) → ((r : Place) → ¬ PrePlace (system v) (v .machines) e r) → Offence v (refuse 11 e 0)
   not-closed : (e s : ℕ) → e < length (v .names) → s < v .states
       → ((r : Place) → PrePlace (system v) (v .machines) e r → T (elem s r)) → ¬ InES (system v) e s → Offence v (refuse 12 e s)
 

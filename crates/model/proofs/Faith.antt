@@ -1,0 +1,278 @@
+-- Demand 3 for machines that pass 8 to 12: they run as the transition system does, and what Run answers.
+use Prim.Native.Nat.{ℕ, zero, suc, _-_, _≤_, _<_}
+use native.Mathlib.Omega.{arith}
+use mathlib.Core.Path.{_≡_, refl, ap, sym, _∙_, subst}
+use mathlib.Core.Logic.{_⊎_, inl, inr}
+use mathlib.Core.Bool.{Bool, not, cond}
+use mathlib.Core.List.{List, [], _∷_, _++_, List·Memᴰ}
+use mathlib.Core.Option.{Option, none, some, Option·map, Option·some-injective, Option·none-ne-some, Option·some-ne-none}
+use lib.Dec.{T, eqb, ltb, ltb→lt, eqb→eq}
+use lib.ListN.{length, take, getD, replicate, length-append, length-replicate, List·getD-append}
+use lib.Seq.{take-at}
+use Rattle.model.specs.Lists.{At, every, isSome}
+use Rattle.model.specs.Refusal.{Refusal, passed}
+use Rattle.model.specs.TransitionSystem.{TransitionSystem, systemStep, runs, andThen, systemRuns, declared}
+use Rattle.model.specs.Machine.{Machine, Decomposition, Move, places, move, moveFrom, fire, fireAll, both, effective, productStep, productRuns}
+use Rattle.model.specs.Region.{Stands}
+use Rattle.model.specs.Services.{Ran, blocker, oneMore, runFrom, whole, blocked, refusedBy, outcomeOf, ranAnswer}
+use Rattle.model.specs.Demands.{Faithful, Blocks, Tells, Answers}
+use Rattle.model.proofs.Laws.{dec, and-l, and-r, eqb-of, cond-true, cond-false}
+use Rattle.model.proofs.Positions.{at-below, at-mem}
+use Rattle.model.proofs.Bounds.{Within, Listed}
+use Rattle.model.proofs.Places.{Good}
+use Rattle.model.proofs.Simulate.{Covers, runs-same, step-low}
+use Rattle.model.proofs.Running.{RunTells, tells, run-stops, run-goes}
+use Rattle.model.proofs.Arcs.{arc-iff}
+use Rattle.model.proofs.Standing.{length-places, stands-at}
+
+-- a run stays among the states
+pub runs-low : (p : TransitionSystem) → Within p → (es : List ℕ) (s u : ℕ) → s < p .states → runs (systemStep p) s es ≡ some u → u < p .states
+unfolding runs andThen
+runs-low p b [] s u l r = subst (λ (v : ℕ). v < p .states) (Option·some-injective s u r) l
+runs-low p b (e ∷ es) s u l r = go (systemStep p s e) refl (runs-low p b es) r
+  where
+    go : (o : Option ℕ) → systemStep p s e ≡ o → ((v w : ℕ) → v < p .states → runs (systemStep p) v es ≡ some w → w < p .states)
+        → andThen o (λ v. runs (systemStep p) v es) ≡ some u → u < p .states
+    go none q ih x = absurd (Option·none-ne-some u x)
+    go (some v) q ih x = ih v u (step-low p b s e v q) x
+
+isSome-map : {A B : Type 0} (f : A → B) (o : Option A) → isSome o ≡ isSome (Option·map f o)
+unfolding isSome
+isSome-map f none = refl
+isSome-map f (some a) = refl
+
+pub faithful : (p : TransitionSystem) (ms : Decomposition) → Within p → ((m : Machine) → List·Memᴰ m ms → Good p m) → Covers p ms → (es : List ℕ) → Faithful p ms es
+unfolding systemRuns productRuns
+faithful p ms b g c es =
+    record {
+      alike = (λ t. subst T equal t, λ t. subst T (sym equal) t);
+      stands = λ u qs x y.
+          subst (λ (v : List ℕ). Stands ms v u) (Option·some-injective (places ms u) qs (sym (same ∙ ap (Option·map (places ms)) x) ∙ y))
+          (stands-at p ms g u (runs-low p b es (p .initial) u (b .initial) x));
+    }
+  where
+    same : productRuns p ms es ≡ Option·map (places ms) (systemRuns p es)
+    same = runs-same p ms b g c es (p .initial) (b .initial)
+
+    equal : isSome (systemRuns p es) ≡ isSome (productRuns p ms es)
+    equal = isSome-map (places ms) (systemRuns p es) ∙ ap isSome (sym same)
+
+-- a beginning of a list that runs runs
+take-runs : (p : TransitionSystem) (es : List ℕ) (j k s : ℕ) → k ≤ j → T (isSome (runs (systemStep p) s (take j es))) → T (isSome (runs (systemStep p) s (take k es)))
+unfolding runs andThen isSome
+take-runs p es j zero s l t = tt
+take-runs p es zero (suc k) s l t = absurd (omega arith)
+take-runs p [] (suc j) (suc k) s l t = tt
+take-runs p (e ∷ es) (suc j) (suc k) s l t = go (systemStep p s e) (λ u x. take-runs p es j k u (omega arith) x) t
+  where
+    go : (o : Option ℕ) → ((u : ℕ) → T (isSome (runs (systemStep p) u (take j es))) → T (isSome (runs (systemStep p) u (take k es))))
+        → T (isSome (andThen o (λ u. runs (systemStep p) u (take j es)))) → T (isSome (andThen o (λ u. runs (systemStep p) u (take k es))))
+    go none ih x = x
+    go (some u) ih x = ih u x
+
+-- what a run of the machines answers: it ran to its end, or the machines do not take the next event
+pub data RunEnd (p : TransitionSystem) (ms : Decomposition) (es : List ℕ) (r : Ran) : Type 0 where
+  ended : r .blocked ≡ none → r .ran ≡ length es → RunEnd p ms es r
+  halted : r .blocked ≡ some (blocker p ms (r .places) (getD es (r .ran) 0)) → r .ran < length es → productStep p ms (r .places) (getD es (r .ran) 0) ≡ none → RunEnd p ms es r
+
+pub run-end : (p : TransitionSystem) (ms : Decomposition) (es qs : List ℕ) → RunEnd p ms es (runFrom p ms qs es)
+unfolding runFrom oneMore
+run-end p ms [] qs = ended refl refl
+run-end p ms (e ∷ es) qs = go (productStep p ms qs e) refl (run-end p ms es)
+  where
+    go : (o : Option (List ℕ)) → productStep p ms qs e ≡ o → ((rs : List ℕ) → RunEnd p ms es (runFrom p ms rs es)) → RunEnd p ms (e ∷ es) (runFrom p ms qs (e ∷ es))
+    go none h ih = subst (RunEnd p ms (e ∷ es)) (sym (run-stops p ms qs e es h)) (halted refl (omega arith) h)
+    go (some rs) h ih = subst (RunEnd p ms (e ∷ es)) (sym (run-goes p ms qs rs e es h)) (one-more (ih rs))
+      where
+        one-more : RunEnd p ms es (runFrom p ms rs es) → RunEnd p ms (e ∷ es) (oneMore (runFrom p ms rs es))
+        one-more (ended x y) = ended x (ap suc y)
+        one-more (halted x y z) = halted x (omega arith) z
+
+-- the lowest machine that blocks
+pub record Halts (p : TransitionSystem) (e : ℕ) (ms : Decomposition) (qs : List ℕ) (k : ℕ) : Type 0 where
+  pub machine : Machine
+  pub numbered : At ms k machine
+  pub stops : fire p machine e (getD qs k 0) ≡ none
+  pub lower : (j : ℕ) (m : Machine) → j < k → At ms j m → T (isSome (fire p m e (getD qs j 0)))
+
+pub blocker-halts : (p : TransitionSystem) (e : ℕ) (ms : Decomposition) (qs : List ℕ) → length qs ≡ length ms → fireAll p e ms qs ≡ none → Halts p e ms qs (blocker p ms qs e)
+unfolding fireAll both blocker isSome
+blocker-halts p e [] [] n h = absurd (Option·some-ne-none [] h)
+blocker-halts p e [] (q ∷ qs) n h = absurd (omega arith)
+blocker-halts p e (m ∷ ms) [] n h = absurd (omega arith)
+blocker-halts p e (m ∷ ms) (q ∷ qs) n h = go (fire p m e q) refl h (blocker-halts p e ms qs (omega arith))
+  where
+    go : (o : Option ℕ) → fire p m e q ≡ o → both o (fireAll p e ms qs) ≡ none → (fireAll p e ms qs ≡ none → Halts p e ms qs (blocker p ms qs e))
+        → Halts p e (m ∷ ms) (q ∷ qs) (cond (isSome o) (suc (blocker p ms qs e)) 0)
+    go none f x ih = record { machine = m; numbered = refl; stops = f; lower = λ j v l a. absurd (omega arith) }
+    go (some r) f x ih = next (ih (rest (fireAll p e ms qs) x))
+      where
+        rest : (o : Option (List ℕ)) → both (some r) o ≡ none → o ≡ none
+        rest none y = refl
+        rest (some rs) y = absurd (Option·some-ne-none (r ∷ rs) y)
+
+        next : Halts p e ms qs (blocker p ms qs e) → Halts p e (m ∷ ms) (q ∷ qs) (suc (blocker p ms qs e))
+        next i = record { machine = i .machine; numbered = i .numbered; stops = i .stops; lower = low }
+          where
+            low : (j : ℕ) (v : Machine) → j < suc (blocker p ms qs e) → At (m ∷ ms) j v → T (isSome (fire p v e (getD (q ∷ qs) j 0)))
+            low zero v l a = subst (λ (z : Machine). T (isSome (fire p z e q))) (Option·some-injective m v a) (rw f tt)
+            low (suc j) v l a = i .lower j v (omega arith) a
+
+-- a machine that blocks has the event and stands outside its pre-place
+blocks-outside : (q : ℕ) (o : Option Move) → moveFrom q o ≡ none → (v : Move) × (o ≡ some v) × (¬ (q ≡ v .pre))
+unfolding moveFrom
+blocks-outside q none h = absurd (Option·some-ne-none q h)
+blocks-outside q (some v) h = (v, refl, λ e. Option·some-ne-none (v .post) (sym (cond-true (eqb q (v .pre)) (some (v .post)) none (eqb-of q (v .pre) e)) ∙ h))
+
+-- a machine that has the event and does not block stands in its pre-place
+moves-inside : (q : ℕ) (v : Move) → T (isSome (moveFrom q (some v))) → q ≡ v .pre
+unfolding moveFrom isSome
+moves-inside q v t = go (dec (eqb q (v .pre)))
+  where
+    go : T (eqb q (v .pre)) ⊎ T (not (eqb q (v .pre))) → q ≡ v .pre
+    go (inl x) = eqb→eq q (v .pre) x
+    go (inr x) = absurd (rw (cond-false (eqb q (v .pre)) (some (v .post)) none x) at t)
+
+module _ (p : TransitionSystem) (ms : Decomposition) (b : Within p) (g : (m : Machine) → List·Memᴰ m ms → Good p m) (w : (m : Machine) → List·Memᴰ m ms → Listed p m) (qs ps : List ℕ) (told : (j : ℕ) → j < length ms → getD ps j 0 ≡ getD qs j 0) (e k : ℕ) (h : Halts p e ms qs k) where
+  halts-blocks : Blocks p ms ps e k
+  unfolding fire
+  halts-blocks =
+      let m = h .machine in
+      let i = at-mem ms k m (h .numbered) in
+      let o = blocks-outside (getD qs k 0) (move p m e) (h .stops) in
+      record {
+        machine = m;
+        numbered = h .numbered;
+        pre = o .0 .pre;
+        post = o .0 .post;
+        has = arc-iff p m (g m i) b (w m i) e (o .0) .0 (o .1);
+        elsewhere = λ q. o .2 (sym (told k (at-below ms k m (h .numbered))) ∙ q);
+      }
+
+  lower-passes : (j : ℕ) → j < k → ¬ Blocks p ms ps e j
+  unfolding fire
+  lower-passes j l x =
+      let m = x .machine in
+      let i = at-mem ms j m (x .numbered) in
+      let v : Move = record { pre = x .pre; post = x .post } in
+      x .elsewhere
+      (told j (at-below ms j m (x .numbered))
+      ∙ moves-inside (getD qs j 0) v (rw (arc-iff p m (g m i) b (w m i) e v .1 (x .has)) at (h .lower j m l (x .numbered))))
+
+every-at : (f : ℕ → Bool) (es : List ℕ) → T (every f es) → (n : ℕ) → n < length es → T (f (getD es n 0))
+unfolding every
+every-at f [] t n l = absurd (omega arith)
+every-at f (e ∷ es) t zero l = and-l (f e) (every f es) t
+every-at f (e ∷ es) t (suc n) l = every-at f es (and-r (f e) (every f es) t) n (omega arith)
+
+declared-at : (p : TransitionSystem) (es : List ℕ) → T (declared p es) → (n : ℕ) → n < length es → getD es n 0 < p .events
+unfolding declared
+declared-at p es t n l = ltb→lt (getD es n 0) (p .events) (every-at (λ e. ltb e (p .events)) es t n l)
+
+step-effective : (p : TransitionSystem) (ms : Decomposition) (qs : List ℕ) (e : ℕ) → T (effective p ms e) → productStep p ms qs e ≡ fireAll p e ms qs
+unfolding productStep
+step-effective p ms qs e t = cond-true (effective p ms e) (fireAll p e ms qs) none t
+
+-- zeros after the places
+getD-zeros : (n k : ℕ) → _≡_ {A = ℕ} (getD (replicate n 0) k 0) 0
+getD-zeros zero k = refl
+getD-zeros (suc n) zero = refl
+getD-zeros (suc n) (suc k) = getD-zeros n k
+
+getD-padded : (qs : List ℕ) (n k : ℕ) → length qs ≤ k → getD (qs ++ replicate n 0) k 0 ≡ 0
+getD-padded [] n k l = getD-zeros n k
+getD-padded (q ∷ qs) n zero l = absurd (omega arith)
+getD-padded (q ∷ qs) n (suc k) l = getD-padded qs n k (omega arith)
+
+-- the outcome by its cases
+outcome-whole : (n : ℕ) (o : Option ℕ) → outcomeOf n o ≡ whole → o ≡ none
+unfolding outcomeOf
+outcome-whole n none h = refl
+outcome-whole n (some k) h = cc
+
+outcome-blocked : (n : ℕ) (o : Option ℕ) (a k : ℕ) → outcomeOf n o ≡ blocked a k → (n ≡ a) × (o ≡ some k)
+unfolding outcomeOf
+outcome-blocked n none a k h = (cc, cc)
+outcome-blocked n (some j) a k h = (cc, cc)
+
+outcome-passed : (n : ℕ) (o : Option ℕ) (r : Refusal) → ¬ (outcomeOf n o ≡ refusedBy r)
+unfolding outcomeOf
+outcome-passed n none r h = let z : _≡_ {A = ℕ} 0 1 = cc in omega arith
+outcome-passed n (some k) r h = let z : _≡_ {A = ℕ} 0 1 = cc in omega arith
+
+one-each : (p : TransitionSystem) (ms : Decomposition) (s : ℕ) (es : List ℕ) (r : Ran) → RunTells p ms s es r → length (r .places) ≡ length ms
+one-each p ms s es r i = ap length (i .places) ∙ length-places ms (i .state)
+
+-- the answer tells of the transition system what the run tells
+run-tells : (p : TransitionSystem) (ms : Decomposition) → Within p → ((m : Machine) → List·Memᴰ m ms → Good p m) → length ms ≤ 16
+    → (es : List ℕ) (r : Ran) → RunTells p ms (p .initial) es r → (n : ℕ) → r .ran ≡ n → Tells p ms es n (r .places ++ replicate (16 - length (r .places)) 0)
+unfolding systemRuns isSome
+run-tells p ms b g few es r i n q =
+    subst (λ (j : ℕ). Tells p ms es j (r .places ++ replicate (16 - length (r .places)) 0)) q
+    (record {
+      most = i .short;
+      longest = λ k l. (i .longest k l, λ h. take-runs p es (r .ran) k (p .initial) h (rw (i .stands) tt));
+      state = i .state;
+      stops = i .stands;
+      sixteen = simp (length-append, length-replicate) (omega (arith, size));
+      told = rw (take-at (r .places) (replicate (16 - length (r .places)) 0) (length ms) size) (rw (i .places)
+          (stands-at p ms g (i .state) (runs-low p b (take (r .ran) es) (p .initial) (i .state) (b .initial) (i .stands))));
+      unused = λ k l. getD-padded (r .places) (16 - length (r .places)) k (omega (arith, size));
+    })
+  where
+    size : length (r .places) ≡ length ms
+    size = one-each p ms (p .initial) es r i
+
+pub answered : (p : TransitionSystem) (ms : Decomposition) → Within p → ((m : Machine) → List·Memᴰ m ms → Good p m) → ((m : Machine) → List·Memᴰ m ms → Listed p m) → Covers p ms → length ms ≤ 16
+    → (es : List ℕ) → T (declared p es) → Answers p ms es (ranAnswer (passed (runFrom p ms (places ms (p .initial)) es)))
+unfolding ranAnswer systemRuns outcomeOf
+answered p ms b g w c few es d =
+    record {
+      ran-whole = (λ h. i .whole .0 (outcome-whole (r .ran) (r .blocked) h), λ t. ap (outcomeOf (r .ran)) (i .whole .1 t));
+      not-refused = outcome-passed (r .ran) (r .blocked);
+      if-whole = λ h. run-tells p ms b g few es r i (length es) (at-end (outcome-whole (r .ran) (r .blocked) h) (run-end p ms es (places ms (p .initial))));
+      if-blocked = λ n k h. let o = outcome-blocked (r .ran) (r .blocked) n k h in at-stop n k (o .0) (o .1) (run-end p ms es (places ms (p .initial)));
+    }
+  where
+    r : Ran
+    r = runFrom p ms (places ms (p .initial)) es
+
+    ps : List ℕ
+    ps = r .places ++ replicate (16 - length (r .places)) 0
+
+    i : RunTells p ms (p .initial) es r
+    i = tells p ms b g c es (p .initial) (b .initial)
+
+    size : length (r .places) ≡ length ms
+    size = one-each p ms (p .initial) es r i
+
+    told : (j : ℕ) → j < length ms → getD ps j 0 ≡ getD (r .places) j 0
+    told j l = List·getD-append (r .places) (replicate (16 - length (r .places)) 0) 0 j (omega (arith, size))
+
+    at-end : r .blocked ≡ none → RunEnd p ms es r → r .ran ≡ length es
+    at-end q (ended x y) = y
+    at-end q (halted x y z) = absurd (Option·some-ne-none (blocker p ms (r .places) (getD es (r .ran) 0)) (sym x ∙ q))
+
+    at-stop : (n k : ℕ) → r .ran ≡ n → r .blocked ≡ some k → RunEnd p ms es r
+        → (n < length es) × Tells p ms es n ps × Blocks p ms ps (getD es n 0) k × ((j : ℕ) → j < k → ¬ Blocks p ms ps (getD es n 0) j)
+    at-stop n k q o (ended x y) = absurd (Option·none-ne-some k (sym x ∙ o))
+    at-stop n k q o (halted x y z) = (
+      subst (λ (j : ℕ). j < length es) q y,
+      run-tells p ms b g few es r i n q,
+      halts-blocks p ms b g w (r .places) ps told (getD es n 0) k halts,
+      lower-passes p ms b g w (r .places) ps told (getD es n 0) k halts,
+    )
+      where
+        e : ℕ
+        e = getD es (r .ran) 0
+
+        low : e < p .events
+        low = declared-at p es d (r .ran) y
+
+        all-stop : fireAll p e ms (r .places) ≡ none
+        all-stop = sym (step-effective p ms (r .places) e (c .effective e low)) ∙ z
+
+        halts : Halts p (getD es n 0) ms (r .places) k
+        halts =
+            subst (λ (j : ℕ). Halts p (getD es j 0) ms (r .places) k) q
+            (subst (Halts p e ms (r .places)) (Option·some-injective (blocker p ms (r .places) e) k (sym x ∙ o)) (blocker-halts p e ms (r .places) size all-stop))
