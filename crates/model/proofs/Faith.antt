@@ -2,28 +2,29 @@
 use Prim.Native.Nat.{ℕ, zero, suc, _-_, _≤_, _<_}
 use native.Mathlib.Omega.{arith}
 use mathlib.Core.Path.{_≡_, refl, ap, sym, _∙_, subst}
-use mathlib.Core.Logic.{_⊎_, inl, inr}
-use mathlib.Core.Bool.{Bool, not, cond}
+use mathlib.Core.Logic.{_⊎_, inl, inr, _↔_}
+use mathlib.Core.Bool.{not, cond}
 use mathlib.Core.List.{List, [], _∷_, _++_, List·Memᴰ}
 use mathlib.Core.Option.{Option, none, some, Option·map, Option·some-injective, Option·none-ne-some, Option·some-ne-none}
-use lib.Dec.{T, eqb, ltb, ltb→lt, eqb→eq}
+use lib.Dec.{T, eqb, eqb→eq}
 use lib.ListN.{length, take, getD, replicate, length-append, length-replicate, List·getD-append}
 use lib.Seq.{take-at}
-use Rattle.model.specs.Lists.{At, every, isSome}
+use Rattle.model.specs.Lists.{At, isSome}
 use Rattle.model.specs.Refusal.{Refusal, passed}
-use Rattle.model.specs.TransitionSystem.{TransitionSystem, systemStep, runs, andThen, systemRuns, declared}
+use Rattle.model.specs.TransitionSystem.{TransitionSystem, systemStep, runs, andThen, systemRuns, transitionsRefusal}
 use Rattle.model.specs.Machine.{Machine, Decomposition, Move, places, move, moveFrom, fire, fireAll, both, effective, productStep, productRuns}
-use Rattle.model.specs.Region.{Stands}
+use Rattle.model.specs.Region.{Walk, Stands, MachinesRun}
 use Rattle.model.specs.Services.{Ran, blocker, oneMore, runFrom, whole, blocked, refusedBy, outcomeOf, ranAnswer}
-use Rattle.model.specs.Demands.{Faithful, Blocks, Tells, Answers}
-use Rattle.model.proofs.Laws.{dec, and-l, and-r, eqb-of, cond-true, cond-false}
-use Rattle.model.proofs.Positions.{at-below, at-mem}
+use Rattle.model.specs.Demands.{OfSystem, SystemRuns, ProductRuns, Faithful, Blocks, Tells, Answers}
+use Rattle.model.proofs.Laws.{dec, eqb-of, cond-true, cond-false}
+use Rattle.model.proofs.Positions.{at-below, at-mem, getD-mem}
 use Rattle.model.proofs.Bounds.{Within, Listed}
 use Rattle.model.proofs.Places.{Good}
 use Rattle.model.proofs.Simulate.{Covers, runs-same, step-low}
 use Rattle.model.proofs.Running.{RunTells, tells, run-stops, run-goes}
 use Rattle.model.proofs.Arcs.{arc-iff}
 use Rattle.model.proofs.Standing.{length-places, stands-at}
+use Rattle.model.proofs.Product.{some-of, system-walk, machines-run}
 
 -- a run stays among the states
 pub runs-low : (p : TransitionSystem) → Within p → (es : List ℕ) (s u : ℕ) → s < p .states → runs (systemStep p) s es ≡ some u → u < p .states
@@ -41,14 +42,30 @@ unfolding isSome
 isSome-map f none = refl
 isSome-map f (some a) = refl
 
-pub faithful : (p : TransitionSystem) (ms : Decomposition) → Within p → ((m : Machine) → List·Memᴰ m ms → Good p m) → Covers p ms → (es : List ℕ) → Faithful p ms es
+-- Q holds of the option's value only: there is a value where Q holds of some
+some-iff : {A : Type 0} (o : Option A) (Q : A → Type 0) → ((a : A) → (o ≡ some a) ↔ Q a) → T (isSome o) ↔ ((a : A) × Q a)
+unfolding isSome
+some-iff o Q h = (λ t. let x = some-of o t in (x .0, h (x .0) .0 (x .1)), λ x. rw (h (x .0) .1 (x .1)) tt)
+
+-- a list runs exactly where there is a path of it
+pub runs-some : (p : TransitionSystem) → transitionsRefusal [] (p .transitions) ≡ none → (es : List ℕ) → T (isSome (systemRuns p es)) ↔ SystemRuns p es
+unfolding systemRuns
+runs-some p n es = some-iff (systemRuns p es) (Walk p (p .initial) es) (system-walk p n es (p .initial))
+
+pub product-some : (p : TransitionSystem) (ms : Decomposition) → Within p → ((m : Machine) → List·Memᴰ m ms → Good p m) → ((m : Machine) → List·Memᴰ m ms → Listed p m)
+    → (es : List ℕ) → T (isSome (productRuns p ms es)) ↔ ProductRuns p ms es
+product-some p ms b g w es = some-iff (productRuns p ms es) (MachinesRun p ms es) (machines-run p ms b g w es)
+
+pub faithful : (p : TransitionSystem) (ms : Decomposition) → Within p → transitionsRefusal [] (p .transitions) ≡ none
+    → ((m : Machine) → List·Memᴰ m ms → Good p m) → ((m : Machine) → List·Memᴰ m ms → Listed p m) → Covers p ms → (es : List ℕ) → Faithful p ms es
 unfolding systemRuns productRuns
-faithful p ms b g c es =
+faithful p ms b n g w c es =
     record {
-      alike = (λ t. subst T equal t, λ t. subst T (sym equal) t);
-      stands = λ u qs x y.
-          subst (λ (v : List ℕ). Stands ms v u) (Option·some-injective (places ms u) qs (sym (same ∙ ap (Option·map (places ms)) x) ∙ y))
-          (stands-at p ms g u (runs-low p b es (p .initial) u (b .initial) x));
+      alike = (
+        λ x. product-some p ms b g w es .0 (subst T equal (runs-some p n es .1 x)),
+        λ y. runs-some p n es .0 (subst T (sym equal) (product-some p ms b g w es .1 y)),
+      );
+      stands = λ u qs x y. at u qs (system-walk p n es (p .initial) u .1 x) (machines-run p ms b g w es qs .1 y);
     }
   where
     same : productRuns p ms es ≡ Option·map (places ms) (systemRuns p es)
@@ -56,6 +73,11 @@ faithful p ms b g c es =
 
     equal : isSome (systemRuns p es) ≡ isSome (productRuns p ms es)
     equal = isSome-map (places ms) (systemRuns p es) ∙ ap isSome (sym same)
+
+    at : (u : ℕ) (qs : List ℕ) → systemRuns p es ≡ some u → productRuns p ms es ≡ some qs → Stands ms qs u
+    at u qs x y =
+        subst (λ (v : List ℕ). Stands ms v u) (Option·some-injective (places ms u) qs (sym (same ∙ ap (Option·map (places ms)) x) ∙ y))
+        (stands-at p ms g u (runs-low p b es (p .initial) u (b .initial) x))
 
 -- a beginning of a list that runs runs
 take-runs : (p : TransitionSystem) (es : List ℕ) (j k s : ℕ) → k ≤ j → T (isSome (runs (systemStep p) s (take j es))) → T (isSome (runs (systemStep p) s (take k es)))
@@ -159,16 +181,6 @@ module _ (p : TransitionSystem) (ms : Decomposition) (b : Within p) (g : (m : Ma
       (told j (at-below ms j m (x .numbered))
       ∙ moves-inside (getD qs j 0) v (rw (arc-iff p m (g m i) b (w m i) e v .1 (x .has)) at (h .lower j m l (x .numbered))))
 
-every-at : (f : ℕ → Bool) (es : List ℕ) → T (every f es) → (n : ℕ) → n < length es → T (f (getD es n 0))
-unfolding every
-every-at f [] t n l = absurd (omega arith)
-every-at f (e ∷ es) t zero l = and-l (f e) (every f es) t
-every-at f (e ∷ es) t (suc n) l = every-at f es (and-r (f e) (every f es) t) n (omega arith)
-
-declared-at : (p : TransitionSystem) (es : List ℕ) → T (declared p es) → (n : ℕ) → n < length es → getD es n 0 < p .events
-unfolding declared
-declared-at p es t n l = ltb→lt (getD es n 0) (p .events) (every-at (λ e. ltb e (p .events)) es t n l)
-
 step-effective : (p : TransitionSystem) (ms : Decomposition) (qs : List ℕ) (e : ℕ) → T (effective p ms e) → productStep p ms qs e ≡ fireAll p e ms qs
 unfolding productStep
 step-effective p ms qs e t = cond-true (effective p ms e) (fireAll p e ms qs) none t
@@ -204,16 +216,19 @@ one-each : (p : TransitionSystem) (ms : Decomposition) (s : ℕ) (es : List ℕ)
 one-each p ms s es r i = ap length (i .places) ∙ length-places ms (i .state)
 
 -- the answer tells of the transition system what the run tells
-run-tells : (p : TransitionSystem) (ms : Decomposition) → Within p → ((m : Machine) → List·Memᴰ m ms → Good p m) → length ms ≤ 16
+run-tells : (p : TransitionSystem) (ms : Decomposition) → Within p → transitionsRefusal [] (p .transitions) ≡ none → ((m : Machine) → List·Memᴰ m ms → Good p m) → length ms ≤ 16
     → (es : List ℕ) (r : Ran) → RunTells p ms (p .initial) es r → (n : ℕ) → r .ran ≡ n → Tells p ms es n (r .places ++ replicate (16 - length (r .places)) 0)
 unfolding systemRuns isSome
-run-tells p ms b g few es r i n q =
+run-tells p ms b f g few es r i n q =
     subst (λ (j : ℕ). Tells p ms es j (r .places ++ replicate (16 - length (r .places)) 0)) q
     (record {
       most = i .short;
-      longest = λ k l. (i .longest k l, λ h. take-runs p es (r .ran) k (p .initial) h (rw (i .stands) tt));
+      longest = λ k l. (
+        λ x. i .longest k l (runs-some p f (take k es) .1 x),
+        λ h. runs-some p f (take k es) .0 (take-runs p es (r .ran) k (p .initial) h (rw (i .stands) tt)),
+      );
       state = i .state;
-      stops = i .stands;
+      stops = system-walk p f (take (r .ran) es) (p .initial) (i .state) .0 (i .stands);
       sixteen = simp (length-append, length-replicate) (omega (arith, size));
       told = rw (take-at (r .places) (replicate (16 - length (r .places)) 0) (length ms) size) (rw (i .places)
           (stands-at p ms g (i .state) (runs-low p b (take (r .ran) es) (p .initial) (i .state) (b .initial) (i .stands))));
@@ -223,14 +238,18 @@ run-tells p ms b g few es r i n q =
     size : length (r .places) ≡ length ms
     size = one-each p ms (p .initial) es r i
 
-pub answered : (p : TransitionSystem) (ms : Decomposition) → Within p → ((m : Machine) → List·Memᴰ m ms → Good p m) → ((m : Machine) → List·Memᴰ m ms → Listed p m) → Covers p ms → length ms ≤ 16
-    → (es : List ℕ) → T (declared p es) → Answers p ms es (ranAnswer (passed (runFrom p ms (places ms (p .initial)) es)))
+pub answered : (p : TransitionSystem) (ms : Decomposition) → Within p → transitionsRefusal [] (p .transitions) ≡ none
+    → ((m : Machine) → List·Memᴰ m ms → Good p m) → ((m : Machine) → List·Memᴰ m ms → Listed p m) → Covers p ms → length ms ≤ 16
+    → (es : List ℕ) → OfSystem p es → Answers p ms es (ranAnswer (passed (runFrom p ms (places ms (p .initial)) es)))
 unfolding ranAnswer systemRuns outcomeOf
-answered p ms b g w c few es d =
+answered p ms b f g w c few es d =
     record {
-      ran-whole = (λ h. i .whole .0 (outcome-whole (r .ran) (r .blocked) h), λ t. ap (outcomeOf (r .ran)) (i .whole .1 t));
+      ran-whole = (
+        λ h. runs-some p f es .0 (i .whole .0 (outcome-whole (r .ran) (r .blocked) h)),
+        λ x. ap (outcomeOf (r .ran)) (i .whole .1 (runs-some p f es .1 x)),
+      );
       not-refused = outcome-passed (r .ran) (r .blocked);
-      if-whole = λ h. run-tells p ms b g few es r i (length es) (at-end (outcome-whole (r .ran) (r .blocked) h) (run-end p ms es (places ms (p .initial))));
+      if-whole = λ h. run-tells p ms b f g few es r i (length es) (at-end (outcome-whole (r .ran) (r .blocked) h) (run-end p ms es (places ms (p .initial))));
       if-blocked = λ n k h. let o = outcome-blocked (r .ran) (r .blocked) n k h in at-stop n k (o .0) (o .1) (run-end p ms es (places ms (p .initial)));
     }
   where
@@ -258,7 +277,7 @@ answered p ms b g w c few es d =
     at-stop n k q o (ended x y) = absurd (Option·none-ne-some k (sym x ∙ o))
     at-stop n k q o (halted x y z) = (
       subst (λ (j : ℕ). j < length es) q y,
-      run-tells p ms b g few es r i n q,
+      run-tells p ms b f g few es r i n q,
       halts-blocks p ms b g w (r .places) ps told (getD es n 0) k halts,
       lower-passes p ms b g w (r .places) ps told (getD es n 0) k halts,
     )
@@ -267,7 +286,7 @@ answered p ms b g w c few es d =
         e = getD es (r .ran) 0
 
         low : e < p .events
-        low = declared-at p es d (r .ran) y
+        low = d e (getD-mem es (r .ran) 0 y)
 
         all-stop : fireAll p e ms (r .places) ≡ none
         all-stop = sym (step-effective p ms (r .places) e (c .effective e low)) ∙ z

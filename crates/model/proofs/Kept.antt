@@ -12,8 +12,9 @@ use lib.Seq.{set-at}
 use Rattle.model.specs.Lists.{count, isSome, isEmpty}
 use Rattle.model.specs.Refusal.{Refusal, refuse}
 use Rattle.model.specs.TransitionSystem.{TransitionSystem}
-use Rattle.model.specs.Machine.{Machine, Decomposition, effective, ineffective, common, excited, excess, openEvent, closureRefusal, coverRefusal, select, suffices, tryDrop, thinBelow, irredundant}
+use Rattle.model.specs.Machine.{Machine, Decomposition, effective, ineffectiveEvent, common, excited, openState, openEvent, closureRefusal, coverRefusal, select, suffices, tryDrop, thinBelow, keptMarks}
 use Rattle.model.specs.Region.{Effective, ExcitationClosed}
+use Rattle.model.specs.Table.{Uncovered, on-no-machine, not-closed}
 use Rattle.model.specs.Demands.{Suffices, Thinned}
 use Rattle.model.proofs.Laws.{not-not, not-T, contra, and-l, and-r, and-i, T-true, T-false, isSome-none, none-isSome, below-suc, Lowest, found, absent, lowest-view}
 use Rattle.model.proofs.Bounds.{Within, Listed}
@@ -21,7 +22,8 @@ use Rattle.model.proofs.Places.{Good}
 use Rattle.model.proofs.Simulate.{covers-of}
 use Rattle.model.proofs.Passed.{covers-none}
 use Rattle.model.proofs.Thinning.{nonEmpty, select-sub, kept-minimal, nonEmpty-length, Tried, dropped, kept-it, tried}
-use Rattle.model.proofs.Regions.{effective-iff, closed-iff}
+use Rattle.model.proofs.Regions.{effective-iff, common-iff, excited-iff, closed-iff}
+use Rattle.model.proofs.Product.{some-of}
 
 -- what a refusal by 11 or 12 says
 pub data CoverRefused (p : TransitionSystem) (ms : Decomposition) (r : Refusal) : Type 0 where
@@ -29,19 +31,19 @@ pub data CoverRefused (p : TransitionSystem) (ms : Decomposition) (r : Refusal) 
   by-12 : ((d : ℕ) → d < p .events → T (effective p ms d)) → (e : ℕ) → e < p .events → (s : ℕ) → s < p .states → T (common p ms e s) → T (not (excited p e s)) → r ≡ refuse 12 e s → CoverRefused p ms r
 
 pub cover-refused : (p : TransitionSystem) (ms : Decomposition) (r : Refusal) → coverRefusal p ms ≡ some r → CoverRefused p ms r
-unfolding coverRefusal ineffective openEvent excess closureRefusal orElse isSome
+unfolding coverRefusal ineffectiveEvent openEvent openState closureRefusal orElse isSome
 cover-refused p ms r h = go (lowest-view (λ e. not (effective p ms e)) (p .events))
   where
     surplus : ℕ → ℕ → Bool
     surplus e s = common p ms e s && not (excited p e s)
 
-    closes : (e : ℕ) → e < p .events → ((d : ℕ) → d < p .events → T (effective p ms d)) → T (isSome (excess p ms e)) → closureRefusal p ms (some e) ≡ some r → Lowest (surplus e) (p .states) → CoverRefused p ms r
+    closes : (e : ℕ) → e < p .events → ((d : ℕ) → d < p .events → T (effective p ms d)) → T (isSome (openState p ms e)) → closureRefusal p ms (some e) ≡ some r → Lowest (surplus e) (p .states) → CoverRefused p ms r
     closes e l a t x (found s q k u f) =
         by-12 a e l s k (and-l (common p ms e s) (not (excited p e s)) u) (and-r (common p ms e s) (not (excited p e s)) u)
         (sym (Option·some-injective (refuse 12 e s) r (sym (ap (Option·map (λ v. refuse 12 e v)) q) ∙ x)))
     closes e l a t x (absent q f) = absurd (rw q at t)
 
-    opens : ((d : ℕ) → d < p .events → T (effective p ms d)) → closureRefusal p ms (openEvent p ms) ≡ some r → Lowest (λ e. isSome (excess p ms e)) (p .events) → CoverRefused p ms r
+    opens : ((d : ℕ) → d < p .events → T (effective p ms d)) → closureRefusal p ms (openEvent p ms) ≡ some r → Lowest (λ e. isSome (openState p ms e)) (p .events) → CoverRefused p ms r
     opens a x (found e q l t f) = closes e l a t (subst (λ (o : Option ℕ). closureRefusal p ms o ≡ some r) q x) (lowest-view (surplus e) (p .states))
     opens a x (absent q f) = absurd (Option·none-ne-some r (sym (ap (closureRefusal p ms) q) ∙ x))
 
@@ -49,14 +51,7 @@ cover-refused p ms r h = go (lowest-view (λ e. not (effective p ms e)) (p .even
     go (found e q l t f) = by-11 e l t (sym (Option·some-injective (refuse 11 e 0) r (sym (ap (λ (o : Option ℕ). orElse (Option·map (λ d. refuse 11 d 0) o) (closureRefusal p ms (openEvent p ms))) q) ∙ h)))
     go (absent q f) =
         opens (λ d l. not-not (effective p ms d) (f d l)) (sym (ap (λ (o : Option ℕ). orElse (Option·map (λ d. refuse 11 d 0) o) (closureRefusal p ms (openEvent p ms))) q) ∙ h)
-        (lowest-view (λ e. isSome (excess p ms e)) (p .events))
-
-pub cover-number : (p : TransitionSystem) (ms : Decomposition) (r : Refusal) → coverRefusal p ms ≡ some r → (r .number ≡ 11) ⊎ (r .number ≡ 12)
-cover-number p ms r h = go (cover-refused p ms r h)
-  where
-    go : CoverRefused p ms r → (r .number ≡ 11) ⊎ (r .number ≡ 12)
-    go (by-11 e l n q) = inl (ap (λ (v : Refusal). v .number) q)
-    go (by-12 a e l s k c n q) = inr (ap (λ (v : Refusal). v .number) q)
+        (lowest-view (λ e. isSome (openState p ms e)) (p .events))
 
 -- what each machine is, each selected machine is: `Good p` and `Listed p` are kept
 pub kept-good : (Q : Machine → Type 0) (ks : List Bool) (ms : Decomposition) → ((m : Machine) → List·Memᴰ m ms → Q m) → (m : Machine) → List·Memᴰ m (select ks ms) → Q m
@@ -75,11 +70,33 @@ module _ (p : TransitionSystem) (ms : Decomposition) (b : Within p) (g : (m : Ma
     λ x. covers-none p ms (record { effective = λ e l. effective-iff p ms b g w e .1 (x e l .0); closed = λ e l. closed-iff p ms b g w e .1 (x e l .1) }),
   )
 
+  -- the refusal by 11 or 12 is one that the table states
+  pub cover-uncovered : (r : Refusal) → coverRefusal p ms ≡ some r → Uncovered p ms r
+  cover-uncovered r h = go (cover-refused p ms r h)
+    where
+      go : CoverRefused p ms r → Uncovered p ms r
+      go (by-11 e l n q) = subst (Uncovered p ms) (sym q) (on-no-machine e l (λ u x. contra (effective p ms e) n (effective-iff p ms b g w e .1 (u, x))))
+      go (by-12 a e l s k c n q) =
+          subst (Uncovered p ms) (sym q)
+          (not-closed e s l k (common-iff p ms b g w e s k .0 c) (λ x. contra (excited p e s) n (excited-iff p ms b g w e s .1 x)))
+
+  -- 11 and 12 pass exactly where the table states neither
+  pub covered : coverRefusal p ms ≡ none → (r : Refusal) → ¬ Uncovered p ms r
+  covered n r (on-no-machine e l h) = let x = effective-iff p ms b g w e .0 (covers-of p ms n .effective e l) in h (x .0) (x .1)
+  covered n r (not-closed e s l k h x) = x (excited-iff p ms b g w e s .0 (covers-of p ms n .closed e l s k (common-iff p ms b g w e s k .1 h)))
+
+  pub covered-none : ((r : Refusal) → ¬ Uncovered p ms r) → coverRefusal p ms ≡ none
+  covered-none f = go (coverRefusal p ms) refl
+    where
+      go : (o : Option Refusal) → coverRefusal p ms ≡ o → coverRefusal p ms ≡ none
+      go none q = q
+      go (some r) q = absurd (f r (cover-uncovered r q))
+
   pub suffices-iff : T (suffices p ms) ↔ Suffices p ms
   unfolding suffices
   suffices-iff = (
-    λ t. (nonEmpty-one ms (and-l (nonEmpty ms) (not (isSome (coverRefusal p ms))) t), cover-iff .0 (isSome-none (coverRefusal p ms) (and-r (nonEmpty ms) (not (isSome (coverRefusal p ms))) t))),
-    λ x. and-i (nonEmpty ms) (not (isSome (coverRefusal p ms))) (nonEmpty-length ms (x .0)) (none-isSome (coverRefusal p ms) (cover-iff .1 (x .1))),
+    λ t. (nonEmpty-one ms (and-l (nonEmpty ms) (not (isSome (coverRefusal p ms))) t), covered (isSome-none (coverRefusal p ms) (and-r (nonEmpty ms) (not (isSome (coverRefusal p ms))) t))),
+    λ x. and-i (nonEmpty ms) (not (isSome (coverRefusal p ms))) (nonEmpty-length ms (x .0)) (none-isSome (coverRefusal p ms) (covered-none (x .1))),
   )
 
 -- as many marks as machines
@@ -92,9 +109,9 @@ thin-length p ms (suc k) keep = thin-length p ms k (tryDrop p ms k keep) ∙ go 
     go (dropped q t) = ap length q ∙ length-set keep k false
     go (kept-it q t) = ap length q
 
-pub irredundant-length : (p : TransitionSystem) (ms : Decomposition) → length (irredundant p ms) ≡ length ms
-unfolding irredundant
-irredundant-length p ms = thin-length p ms (length ms) (replicate (length ms) true) ∙ length-replicate (length ms) true
+pub kept-length : (p : TransitionSystem) (ms : Decomposition) → length (keptMarks p ms) ≡ length ms
+unfolding keptMarks
+kept-length p ms = thin-length p ms (length ms) (replicate (length ms) true) ∙ length-replicate (length ms) true
 
 pub select-count : (ks : List Bool) (ms : Decomposition) → length ks ≡ length ms → count (λ b. b) ks ≡ length (select ks ms)
 unfolding count select
@@ -160,37 +177,33 @@ module _ (p : TransitionSystem) (ms : Decomposition) where
       go (inl h) ih = ih h
       go (inr h) ih = rw h (d .0 ∙ ap (λ (r : List Bool). not (suffices p (without k r))) (sym (d .1)))
 
-  pub irredundant-examined : (i : ℕ) → i < length ms → getD (irredundant p ms) i false ≡ not (suffices p (without i (drop (suc i) (irredundant p ms))))
-  unfolding irredundant
-  irredundant-examined i l =
+  pub kept-examined : (i : ℕ) → i < length ms → getD (keptMarks p ms) i false ≡ not (suffices p (without i (drop (suc i) (keptMarks p ms))))
+  unfolding keptMarks
+  kept-examined i l =
       subst (λ (r : List Bool). getD (thinBelow p ms (length ms) r) i false ≡ not (suffices p (without i (drop (suc i) (thinBelow p ms (length ms) r)))))
       (append-nil (replicate (length ms) true)) (thin-examined (length ms) [] i l)
 
-a-refusal : {A : Type 0} (o : Option A) → T (isSome o) → (r : A) × (o ≡ some r)
-unfolding isSome
-a-refusal none t = absurd t
-a-refusal (some r) t = (r, refl)
-
 pub thinned : (p : TransitionSystem) (ms : Decomposition) → Within p → ((m : Machine) → List·Memᴰ m ms → Good p m) → ((m : Machine) → List·Memᴰ m ms → Listed p m)
-    → Thinned p ms (record { marks = irredundant p ms; size = count (λ b. b) (irredundant p ms) })
+    → Thinned p ms (record { marks = keptMarks p ms; size = count (λ b. b) (keptMarks p ms) })
 thinned p ms b g w =
     record {
-      one-each = irredundant-length p ms;
+      one-each = kept-length p ms;
       size = size;
       examined = λ i l. (
-        λ t x. contra (suffices p (rest i)) (subst T (irredundant-examined p ms i l) t) (enough i .1 x),
-        λ n. subst T (sym (irredundant-examined p ms i l)) (not-T (suffices p (rest i)) (λ t. n (enough i .0 t))),
+        λ t x. contra (suffices p (rest i)) (subst T (kept-examined p ms i l) t) (enough i .1 x),
+        λ n. subst T (sym (kept-examined p ms i l)) (not-T (suffices p (rest i)) (λ t. n (enough i .0 t))),
       );
       irredundant = λ two i t.
-          let w = a-refusal (coverRefusal p (select (set (irredundant p ms) i false) ms)) (kept-minimal p ms (omega (arith, size)) i t) in
-          (w .0, w .1, cover-number p (select (set (irredundant p ms) i false) ms) (w .0) (w .1));
+          let ks = set (keptMarks p ms) i false in
+          let x = some-of (coverRefusal p (select ks ms)) (kept-minimal p ms (omega (arith, size)) i t) in
+          (x .0, cover-uncovered p (select ks ms) b (kept-good (Good p) ks ms g) (kept-good (Listed p) ks ms w) (x .0) (x .1));
     }
   where
-    size : count (λ b. b) (irredundant p ms) ≡ length (select (irredundant p ms) ms)
-    size = select-count (irredundant p ms) ms (irredundant-length p ms)
+    size : count (λ b. b) (keptMarks p ms) ≡ length (select (keptMarks p ms) ms)
+    size = select-count (keptMarks p ms) ms (kept-length p ms)
 
     marks : ℕ → List Bool
-    marks i = replicate i true ++ (false ∷ drop (suc i) (irredundant p ms))
+    marks i = replicate i true ++ (false ∷ drop (suc i) (keptMarks p ms))
 
     rest : ℕ → Decomposition
     rest i = select (marks i) ms

@@ -51,14 +51,6 @@ pub or-e : (a b : Bool) → T (a || b) → T a ⊎ T b
 or-e true b t = inl tt
 or-e false b t = inr t
 
-pub or-false-l : (a b : Bool) → (a || b) ≡ false → a ≡ false
-or-false-l true b e = e
-or-false-l false b e = refl
-
-pub or-false-r : (a b : Bool) → (a || b) ≡ false → b ≡ false
-or-false-r true b e = let z : _≡_ {A = ℕ} 0 1 = cc in absurd (omega arith)
-or-false-r false b e = e
-
 pub and-not : (a b : Bool) → T (not (a && b)) → T (not a) ⊎ T (not b)
 and-not true b t = inr t
 and-not false b t = inl tt
@@ -132,18 +124,6 @@ module _ {A : Type 0} where
   pub cond-false : (b : Bool) (x y : A) → T (not b) → cond b x y ≡ y
   cond-false true x y t = absurd t
   cond-false false x y t = refl
-
--- no element passes
-module _ {A : Type 0} (f : A → Bool) where
-  pub none-exist : (l : List A) → ((x : A) → List·Memᴰ x l → f x ≡ false) → exists f l ≡ false
-  unfolding exists
-  none-exist [] h = refl
-  none-exist (y ∷ l) h = rw (h y (List·Memᴰ·head refl)) (none-exist l (λ x m. h x (List·Memᴰ·tail m)))
-
-  pub exist-none : (l : List A) → exists f l ≡ false → (x : A) → List·Memᴰ x l → f x ≡ false
-  unfolding exists
-  exist-none (y ∷ l) e x (List·Memᴰ·head p) = ap f p ∙ or-false-l (f y) (exists f l) e
-  exist-none (y ∷ l) e x (List·Memᴰ·tail m) = exist-none l (or-false-r (f y) (exists f l) e) x m
 
 module _ {A : Type 0} where
   -- lists

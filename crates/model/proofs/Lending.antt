@@ -10,12 +10,13 @@ use lib.ListN.{length, drop, length-append, length-drop}
 use Rattle.model.specs.Refusal.{Refusal, refuse, Checked, refused, passed, _>>=_}
 use Rattle.model.specs.TransitionSystem.{Transition}
 use Rattle.model.specs.Text.{Input}
+use Rattle.model.specs.Sheet.{sheet}
 use Rattle.model.specs.Table.{Refused, Passes}
-use Rattle.model.specs.Services.{asFarAs7, asFarAs12, lend, sheet, check, steps}
-use Rattle.model.specs.Demands.{Lends}
+use Rattle.model.specs.Services.{writtenRefusal, writtenAnswer, printed, asFarAs7, asFarAs12, lend, check, steps}
+use Rattle.model.specs.Demands.{Lends, Prints, Decides}
 use Rattle.model.proofs.Laws.{dec, cond-true, cond-false}
 use Rattle.model.proofs.Order.{Verdict, turned-down, let-through, one-refusal, not-both}
-use Rattle.model.proofs.Verdicts.{refused-passed, same-refused, same-passed, one-passed, verdict7, verdict12}
+use Rattle.model.proofs.Verdicts.{decides, refused-passed, same-refused, same-passed, one-passed, verdict7, verdict12}
 
 module _ {A : Type 0} (n : ℕ) (s : List ℕ) (wanted : Input → List A) (out : List A) where
   abbrev Long : Refusal → Type 0
@@ -87,3 +88,30 @@ checking s out = lends 12 s sheet out (asFarAs12 s) (verdict12 s)
 pub listing : (s : List ℕ) (out : List Transition) → Lends 7 s (λ v. v .transitions) out (steps s out)
 unfolding steps
 listing s out = lends 7 s (λ v. v .transitions) out (asFarAs7 s) (verdict7 s)
+
+-- ---- the program
+
+printed-refused : (s : List ℕ) (r : Refusal) → asFarAs12 s ≡ refused r → printed s ≡ writtenRefusal r
+unfolding printed writtenAnswer
+printed-refused s r e = rw e
+
+printed-passed : (s : List ℕ) (v : Input) → asFarAs12 s ≡ passed v → printed s ≡ sheet v
+unfolding printed writtenAnswer
+printed-passed s v e = rw e
+
+-- where every sheet of a text that passes fits
+pub printing : (s : List ℕ) → ((v : Input) → Passes 12 s v → length (sheet v) ≤ 32768) → Prints s
+printing s fits =
+    record {
+      refuses = λ r f. printed-refused s r (d .refuses r .1 f);
+      accepts = λ v p. printed-passed s v (d .passes v .1 p);
+      suffices = λ out h r. (λ e. go out h r (checking s out .refuses r .0 e), λ f. checking s out .refuses r .1 (inl f));
+    }
+  where
+    d : Decides 12 s (asFarAs12 s)
+    d = decides 12 s (asFarAs12 s) (verdict12 s)
+
+    go : (out : List ℕ) → length out ≡ 32768 → (r : Refusal)
+        → Refused 12 s r ⊎ ((v : Input) × Passes 12 s v × (length out < length (sheet v)) × (r ≡ refuse 13 (length (sheet v)) 0)) → Refused 12 s r
+    go out h r (inl f) = f
+    go out h r (inr w) = absurd (omega (arith, w .2, fits (w .0) (w .1), h))

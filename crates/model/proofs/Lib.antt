@@ -20,13 +20,16 @@ pub mod Faith
 pub mod Kept
 pub mod Differs
 pub mod Words
+pub mod Numerals
 pub mod Lines
+pub mod SheetForms
 pub mod Chains
 pub mod Values
 pub mod Order
 pub mod Whole
 pub mod Precedence
 pub mod Limits
+pub mod Covering
 pub mod Rows
 pub mod Verdicts
 pub mod Lending

@@ -1,27 +1,20 @@
 -- The lines: the readers of specs/Form.antt against the bytes that it gives.
 use Prim.Native.Nat.{ℕ, _+_, _≤_}
 use native.Mathlib.Omega.{arith}
-use mathlib.Core.Path.{_≡_, refl, ap, _∙_, subst}
+use mathlib.Core.Path.{_≡_, refl, ap, sym, _∙_, subst}
 use mathlib.Core.Bool.{Bool, true, false, not, cond}
 use mathlib.Core.List.{List, [], _∷_, _++_, append-assoc, flatMap, List·Memᴰ, List·Memᴰ·head, List·Memᴰ·tail}
 use lib.Dec.{T}
 use lib.ListN.{length, drop, getD, length-append}
 use lib.Seq.{drop-append-seam}
-use Rattle.model.specs.Lists.{exists}
+use Rattle.model.specs.Lists.{exists, count}
 use Rattle.model.specs.Machine.{Place}
 use Rattle.model.specs.Bytes.{bytes, digits, isDigit, isNameByte, isLetter, Name, IsName}
-use Rattle.model.specs.Reading.{Out, fail, got, Reader, after, instead, either, litBytes, figure, name, items}
-use Rattle.model.specs.Form.{Line, states, events, step, machine, writtenPlace, written, IsPlace, Formed, isMachine, Follows, statesLine, spacedName, eventsLine, stepLine, spacedFigure, place, machineLine, lineAfter}
-use Rattle.model.specs.Demands.{ReadBack}
-use Rattle.model.proofs.Laws.{none-exist, exist-none}
+use Rattle.model.specs.Reading.{Parsed, fail, got, Reader, after, instead, either, litBytes, figure, name, items}
+use Rattle.model.specs.Form.{Line, states, events, step, machine, writtenPlace, written, IsPlace, Formed, isMachineLine, Follows, statesLine, spacedName, eventsLine, stepLine, spacedFigure, place, machineLine, lineAfter}
+use Rattle.model.proofs.Laws.{T-false, not-T}
+use Rattle.model.proofs.Counting.{count-none, count-some}
 use Rattle.model.proofs.Words.{Spans, then, inside, past, done, by, lit-complete, lit-fails, lit-sound, figure-complete, figure-sound, name-complete, name-sound, ReaderSound, ReaderComplete, EachOk, each-cons, items-complete, items-sound}
-
-pub read-back : ReadBack
-read-back =
-    record {
-      figures = λ n h before rest t. figure-complete n h (before ++ (digits n ++ rest)) (length before) rest t (drop-append-seam before (digits n ++ rest));
-      names = λ w h before rest t. name-complete w h (before ++ (w ++ rest)) (length before) rest t (drop-append-seam before (w ++ rest));
-    }
 
 -- what is given is what was found
 given : {A : Type 0} (W : A → List ℕ) (Ok : A → Type 0) {s : List ℕ} {at : ℕ} {x y : A} {m n : ℕ} → got x m ≡ got y n → Ok x → Spans s at (W x) m
@@ -73,7 +66,7 @@ names-complete es h s at rest e =
     items-complete spacedName (spaced (λ (e : Name). e)) IsName NoNameByte
     (spaced-complete name (λ (e : Name). e) IsName NoNameByte name-complete)
     (λ x t. tt) (λ x. omega arith) es h s at (41 ∷ rest) tt
-    (λ m q. ap (λ (o : Out (Unit {0})). after o (λ _ k. name s k)) (lit-fails (bytes " ") s m (41 ∷ rest) q tt)) e
+    (λ m q. ap (λ (o : Parsed (Unit {0})). after o (λ _ k. name s k)) (lit-fails (bytes " ") s m (41 ∷ rest) q tt)) e
 
 -- figures, each after a space, to a closing bracket
 abbrev IsBelow : ℕ → Type 0
@@ -94,7 +87,7 @@ figures-complete xs h s at rest e =
     items-complete spacedFigure (spaced digits) IsBelow NoDigit
     (spaced-complete figure digits IsBelow NoDigit figure-complete)
     (λ x t. tt) (λ x. omega arith) xs h s at (41 ∷ rest) tt
-    (λ m q. ap (λ (o : Out (Unit {0})). after o (λ _ k. figure s k)) (lit-fails (bytes " ") s m (41 ∷ rest) q tt)) e
+    (λ m q. ap (λ (o : Parsed (Unit {0})). after o (λ _ k. figure s k)) (lit-fails (bytes " ") s m (41 ∷ rest) q tt)) e
 
 -- a line that may follow these
 abbrev Fits : List Line → Line → Type 0
@@ -110,7 +103,7 @@ states-sound s at l next e =
     let p1 = lit-sound (bytes "(states ") s at x1 m1 e1 in
     let (h, p2) = figure-sound s m1 n m2 e2 in
     let p3 = lit-sound (bytes ")\n") s m2 x3 m3 e3 in
-    given written (Fits []) {x = states n} r3 (h, tt) (then p1 (then p2 p3))
+    given written (Fits []) {x = states n} r3 (h, refl) (then p1 (then p2 p3))
 
 states-complete : (n : ℕ) → n ≤ 999 → (s : List ℕ) (at : ℕ) (rest : List ℕ) → drop at s ≡ written (states n) ++ rest
     → statesLine s at ≡ got (states n) (at + length (written (states n)))
@@ -139,7 +132,7 @@ events-sound x s at l next e =
     let p1 = lit-sound (bytes "(events") s at x1 m1 e1 in
     let (h, p2) = names-sound s m1 es m2 e2 in
     let p3 = lit-sound (bytes ")\n") s m2 x3 m3 e3 in
-    given written (Fits (x ∷ [])) {x = events es} r3 (h, tt) (then p1 (then p2 p3))
+    given written (Fits (x ∷ [])) {x = events es} r3 (h, refl) (then p1 (then p2 p3))
 
 events-complete : (es : List Name) → ((e : Name) → List·Memᴰ e es → IsName e) → (s : List ℕ) (at : ℕ) (rest : List ℕ)
     → drop at s ≡ written (events es) ++ rest → eventsLine s at ≡ got (events es) (at + length (written (events es)))
@@ -159,7 +152,7 @@ events-complete es h s at rest e =
     (ap (got (events es)) z)))
 
 -- a step line
-step-sound : (x y : Line) (ls : List Line) → ((m : Line) → List·Memᴰ m ls → isMachine m ≡ false) → ReaderSound stepLine written (Fits (x ∷ y ∷ ls))
+step-sound : (x y : Line) (ls : List Line) → count isMachineLine (x ∷ y ∷ ls) ≡ 0 → ReaderSound stepLine written (Fits (x ∷ y ∷ ls))
 unfolding stepLine written
 step-sound x y ls f s at l next e =
     by (litBytes (bytes "(step ") s at) _ e λ x1 m1 e1 r1.
@@ -176,7 +169,7 @@ step-sound x y ls f s at l next e =
     let p5 = lit-sound (bytes " ") s m4 x5 m5 e5 in
     let (h6, p6) = figure-sound s m5 b m6 e6 in
     let p7 = lit-sound (bytes ")\n") s m6 x7 m7 e7 in
-    given written (Fits (x ∷ y ∷ ls)) {x = step a w b} r7 ((h2, h4, h6), f) (then p1 (then p2 (then p3 (then p4 (then p5 (then p6 p7))))))
+    given written (Fits (x ∷ y ∷ ls)) {x = step a w b} r7 ((h2, h4, h6), (omega arith, f)) (then p1 (then p2 (then p3 (then p4 (then p5 (then p6 p7))))))
 
 step-complete : (a : ℕ) (w : Name) (b : ℕ) → a ≤ 999 → IsName w → b ≤ 999 → (s : List ℕ) (at : ℕ) (rest : List ℕ)
     → drop at s ≡ written (step a w b) ++ rest → stepLine s at ≡ got (step a w b) (at + length (written (step a w b)))
@@ -273,7 +266,7 @@ machine-sound x y ls s at l next e =
     let (h2, p2) = place-sound s m1 p m2 e2 in
     let (h3, p3) = items-sound place writtenPlace IsPlace place-sound s m2 ps m3 e3 in
     let p4 = lit-sound (bytes ")\n") s m3 x4 m4 e4 in
-    given written (Fits (x ∷ y ∷ ls)) {x = machine (p ∷ ps)} r4 ((omega arith, each-cons IsPlace p ps h2 h3), tt) (then p1 (then (then p2 p3) p4))
+    given written (Fits (x ∷ y ∷ ls)) {x = machine (p ∷ ps)} r4 ((omega arith, each-cons IsPlace p ps h2 h3), omega arith) (then p1 (then (then p2 p3) p4))
 
 machine-complete : (ps : List Place) → 1 ≤ length ps → ((p : Place) → List·Memᴰ p ps → IsPlace p) → (s : List ℕ) (at : ℕ) (rest : List ℕ)
     → drop at s ≡ written (machine ps) ++ rest → machineLine s at ≡ got (machine ps) (at + length (written (machine ps)))
@@ -312,24 +305,31 @@ written-positive (events es) = omega arith
 written-positive (step a e b) = omega arith
 written-positive (machine ps) = omega arith
 
+-- no machine line is counted, so there is none
+none-counted : (ls : List Line) → count isMachineLine ls ≡ 0 → exists isMachineLine ls ≡ false
+none-counted ls e =
+    T-false (exists isMachineLine ls)
+    (not-T (exists isMachineLine ls) (λ t. let h : 1 ≤ count isMachineLine ls = count-some isMachineLine ls t in omega arith))
+
 -- The line that is written is found.
 pub line-found : (ls : List Line) (l : Line) → Follows ls l → Formed l → (s : List ℕ) (at : ℕ) (rest : List ℕ) → drop at s ≡ written l ++ rest
     → lineAfter ls s at ≡ got l (at + length (written l))
 unfolding lineAfter
 line-found [] (states n) f h s at rest e = states-complete n h s at rest e
-line-found [] (events es) f h s at rest e = absurd f
-line-found [] (step a w b) f h s at rest e = absurd f
-line-found [] (machine ps) f h s at rest e = absurd f
-line-found (x ∷ []) (states n) f h s at rest e = absurd f
+line-found [] (events es) f h s at rest e = absurd (omega arith)
+line-found [] (step a w b) f h s at rest e = absurd (omega arith)
+line-found [] (machine ps) f h s at rest e = absurd (omega arith)
+line-found (x ∷ []) (states n) f h s at rest e = absurd (omega arith)
 line-found (x ∷ []) (events es) f h s at rest e = events-complete es h s at rest e
-line-found (x ∷ []) (step a w b) f h s at rest e = absurd f
-line-found (x ∷ []) (machine ps) f h s at rest e = absurd f
-line-found (x ∷ y ∷ ls) (states n) f h s at rest e = absurd f
-line-found (x ∷ y ∷ ls) (events es) f h s at rest e = absurd f
+line-found (x ∷ []) (step a w b) f h s at rest e = absurd (omega arith)
+line-found (x ∷ []) (machine ps) f h s at rest e = absurd (omega arith)
+line-found (x ∷ y ∷ ls) (states n) f h s at rest e = absurd (omega arith)
+line-found (x ∷ y ∷ ls) (events es) f h s at rest e = absurd (omega arith)
 line-found (x ∷ y ∷ ls) (step a w b) f h s at rest e =
     let q = step-complete a w b (h .0) (h .1) (h .2) s at rest e in
-    rw (none-exist isMachine ls f, q)
-line-found (x ∷ y ∷ ls) (machine ps) f h s at rest e = go (exists isMachine ls) (machine-complete ps (h .0) (h .1) s at rest e) (not-step ps s at rest e)
+    rw (none-counted (x ∷ y ∷ ls) (f .1), q)
+line-found (x ∷ y ∷ ls) (machine ps) f h s at rest e =
+    go (exists isMachineLine (x ∷ y ∷ ls)) (machine-complete ps (h .0) (h .1) s at rest e) (not-step ps s at rest e)
   where
     go : (b : Bool) → machineLine s at ≡ got (machine ps) (at + length (written (machine ps))) → stepLine s at ≡ fail
         → cond b machineLine (either stepLine machineLine) s at ≡ got (machine ps) (at + length (written (machine ps)))
@@ -353,17 +353,17 @@ line-fits : (ls : List Line) → ReaderSound (lineAfter ls) written (Fits ls)
 unfolding lineAfter
 line-fits [] s at l next e = states-sound s at l next e
 line-fits (x ∷ []) s at l next e = events-sound x s at l next e
-line-fits (x ∷ y ∷ ls) s at l next e = go (exists isMachine ls) refl e
+line-fits (x ∷ y ∷ ls) s at l next e = go (exists isMachineLine (x ∷ y ∷ ls)) refl e
   where
-    either-way : (o : Out Line) → ((m : Line) → List·Memᴰ m ls → isMachine m ≡ false) → stepLine s at ≡ o → instead o (machineLine s at) ≡ got l next
+    either-way : (o : Parsed Line) → count isMachineLine (x ∷ y ∷ ls) ≡ 0 → stepLine s at ≡ o → instead o (machineLine s at) ≡ got l next
         → Fits (x ∷ y ∷ ls) l × Spans s at (written l) next
     either-way fail f p q = machine-sound x y ls s at l next q
     either-way (got k n) f p q = step-sound x y ls f s at l next (p ∙ q)
 
-    go : (b : Bool) → exists isMachine ls ≡ b → cond b machineLine (either stepLine machineLine) s at ≡ got l next
+    go : (b : Bool) → exists isMachineLine (x ∷ y ∷ ls) ≡ b → cond b machineLine (either stepLine machineLine) s at ≡ got l next
         → Fits (x ∷ y ∷ ls) l × Spans s at (written l) next
     go true p q = machine-sound x y ls s at l next q
-    go false p q = either-way (stepLine s at) (exist-none isMachine ls p) refl q
+    go false p q = either-way (stepLine s at) (count-none isMachineLine (x ∷ y ∷ ls) (subst (λ (z : Bool). T (not z)) (sym p) tt)) refl q
 
 pub line-sound : (ls : List Line) (s : List ℕ) (at : ℕ) (l : Line) (next : ℕ) → at ≤ length s → lineAfter ls s at ≡ got l next → LineRead ls s at l next
 line-sound ls s at l next h e =

@@ -1,16 +1,16 @@
 -- The part of the text that is an event's name.
 use Prim.Native.Nat.{ℕ, zero, suc, _<_, _≤_}
 use native.Mathlib.Omega.{arith}
-use mathlib.Core.Path.{_≡_, ap, sym, _∙_, subst}
-use mathlib.Core.Logic.{_⊎_, inl, inr}
+use mathlib.Core.Path.{refl, _≡_, ap, sym, _∙_, subst}
+use mathlib.Core.Logic.{_↔_, _⊎_, inl, inr}
 use mathlib.Core.Bool.{not}
 use mathlib.Core.List.{List, [], _∷_, _++_, map, flatMap, append-assoc}
-use mathlib.Core.Option.{Option·some-injective, Option·none-ne-some}
+use mathlib.Core.Option.{Option, some, Option·some-injective, Option·none-ne-some}
 use lib.Dec.{T, ltb, ltb→lt, lt→ltb, nltb→le}
 use lib.ListN.{length, take, drop, getD}
 use lib.Seq.{take-append-seam, drop-append-seam}
 use Rattle.model.specs.Lists.{At}
-use Rattle.model.specs.Refusal.{Refusal, refuse, Checked, refused, passed, need, _>>=_, _>>_}
+use Rattle.model.specs.Refusal.{refusalOf, Refusal, refuse, Checked, refused, passed, need, _>>=_, _>>_}
 use Rattle.model.specs.TransitionSystem.{Transition}
 use Rattle.model.specs.Machine.{Machine}
 use Rattle.model.specs.Bytes.{bytes, Name}
@@ -18,7 +18,7 @@ use Rattle.model.specs.Reading.{part}
 use Rattle.model.specs.Form.{states, step, machine, written}
 use Rattle.model.specs.Text.{Input, linesOf, write, nameAt}
 use Rattle.model.specs.Table.{Refused, Passes}
-use Rattle.model.specs.Services.{asFarAs7, name, Part}
+use Rattle.model.specs.Services.{handedBack, nameRefusal, asFarAs7, name, Part}
 use Rattle.model.specs.Demands.{Names}
 use Rattle.model.proofs.Laws.{dec, T-true, T-false, not-below}
 use Rattle.model.proofs.Positions.{at-below}
@@ -77,6 +77,22 @@ unfolding named
 named-unknown v e l = rw (T-false (ltb e (length (v .names))) (not-below e (length (v .names)) l))
 
 module _ (s : List ℕ) (e : ℕ) where
+  hand-passed : (p : Part) → name s e ≡ passed p → handedBack (name s e) ≡ p
+  unfolding handedBack
+  hand-passed p q = rw q
+
+  hand-refused : (r : Refusal) → name s e ≡ refused r → handedBack (name s e) ≡ record { from = 0; size = 0 }
+  unfolding handedBack
+  hand-refused r q = rw q
+
+  companion-of : (r : Refusal) → (nameRefusal s e ≡ some r) ↔ (name s e ≡ refused r)
+  unfolding nameRefusal
+  companion-of r = (λ h. go (name s e) refl h, λ q. ap {B = Option Refusal} refusalOf q)
+    where
+      go : (c : Checked Part) → name s e ≡ c → refusalOf c ≡ some r → name s e ≡ refused r
+      go (refused x) q h = q ∙ ap {B = Checked Part} refused (Option·some-injective x r h)
+      go (passed p) q h = absurd (Option·none-ne-some r h)
+
   abbrev Unknown : Refusal → Type 0
   Unknown r = (v : Input) × Passes 7 s v × (length (v .names) ≤ e) × (r ≡ refuse 14 0 0)
 
@@ -85,6 +101,9 @@ module _ (s : List ℕ) (e : ℕ) where
       record {
         refuses = λ x. (λ h. inl (subst (Refused 7 s) (same-refused {A = Part} r x (sym q ∙ h)) f), back x);
         accepts = λ v w p a. absurd (not-both 7 s r v f p);
+        hands = hand-passed;
+        hands-empty = hand-refused;
+        companion = companion-of;
       }
     where
       back : (x : Refusal) → Refused 7 s x ⊎ Unknown x → name s e ≡ refused x
@@ -97,6 +116,9 @@ module _ (s : List ℕ) (e : ℕ) where
       record {
         refuses = λ x. (λ h. absurd (refused-passed x _ (sym h ∙ q ∙ named-known v e l)), back x);
         accepts = λ u w g a. subst (λ (z : Input). At (z .names) e w → Answer z w) (one-passed 7 s v u p g) (here w) a;
+        hands = hand-passed;
+        hands-empty = hand-refused;
+        companion = companion-of;
       }
     where
       Answer : Input → Name → Type 0
@@ -125,6 +147,9 @@ module _ (s : List ℕ) (e : ℕ) where
       record {
         refuses = λ x. (λ h. inr (v, p, l, sym (same-refused {A = Part} (refuse 14 0 0) x (sym (q ∙ named-unknown v e l) ∙ h))), back x);
         accepts = λ u w g a. absurd (omega (arith, at-below (u .names) e w a, ap (λ (z : Input). length (z .names)) (one-passed 7 s v u p g), l));
+        hands = hand-passed;
+        hands-empty = hand-refused;
+        companion = companion-of;
       }
     where
       back : (x : Refusal) → Refused 7 s x ⊎ Unknown x → name s e ≡ refused x

@@ -7,11 +7,11 @@ use mathlib.Core.List.{List, [], _∷_, _++_, List·Memᴰ, List·Memᴰ·head, 
 use mathlib.Core.Option.{Option, none, some, Option·some-injective, Option·none-ne-some}
 use lib.Dec.{T, eqb, ltb, ltb→lt, lt→ltb, eqb→eq, eqb-refl}
 use Rattle.model.specs.Lists.{isSome, elem}
-use Rattle.model.specs.TransitionSystem.{Transition, TransitionSystem, systemStep, runs, andThen, systemRuns, transitionRefusal, transitionsRefusal, systemRefusal}
-use Rattle.model.specs.Machine.{Machine, Decomposition, Move, placeOf, places, move, inAlphabet, effective, moveFrom, fire, both, fireAll, productStep, productRuns, uncovered, nonuniform}
-use Rattle.model.specs.Region.{Walk, stay, goes, IsTransitionSystem, IsRegion, InPlace, IsMachine, Arc, HasEvent, Joint, done, joins, waits, Product, ProductWalk}
-use Rattle.model.specs.Demands.{Derived}
-use Rattle.model.proofs.Laws.{not-T, contra, eqb-of, cond-true, exists-intro, exists-elim, orElse-none, none-lowest}
+use Rattle.model.specs.TransitionSystem.{Transition, TransitionSystem, systemStep, runs, andThen, systemRuns, declared, transitionRefusal, transitionsRefusal, systemRefusal}
+use Rattle.model.specs.Machine.{Machine, Decomposition, Move, placeOf, places, move, inAlphabet, effective, moveFrom, fire, both, fireAll, productStep, productRuns, uncoveredState, nonuniformEvent}
+use Rattle.model.specs.Region.{Walk, stay, goes, IsTransitionSystem, IsRegion, InPlace, IsMachine, Arc, HasEvent, Joint, done, joins, waits, Product, ProductWalk, MachinesRun}
+use Rattle.model.specs.Demands.{Derived, OfSystem}
+use Rattle.model.proofs.Laws.{not-T, contra, eqb-of, cond-true, exists-intro, exists-elim, every-elim, every-intro, orElse-none, none-lowest}
 use Rattle.model.proofs.Positions.{at-mem}
 use Rattle.model.proofs.Bounds.{Within, Listed}
 use Rattle.model.proofs.Places.{Good, elem-flatten}
@@ -127,6 +127,11 @@ unfolding andThen
 then-some none f c h = absurd (Option·none-ne-some c h)
 then-some (some a) f c h = (a, refl, h)
 
+pub some-of : {A : Type 0} (o : Option A) → T (isSome o) → (a : A) × (o ≡ some a)
+unfolding isSome
+some-of none t = absurd t
+some-of (some a) t = (a, refl)
+
 pub walks-iff : (p : TransitionSystem) (ms : Decomposition) → Within p → ((m : Machine) → List·Memᴰ m ms → Good p m) → ((m : Machine) → List·Memᴰ m ms → Listed p m)
     → (es qs rs : List ℕ) → (runs (productStep p ms) qs es ≡ some rs) ↔ ProductWalk p ms qs es rs
 unfolding runs andThen
@@ -161,6 +166,24 @@ system-walk p n es s u = (to es s u, from es s u)
     from es s u stay = refl
     from es s u (goes {es = ds} t k y) = rw (takes p n t k) (from ds (t .target) u y)
 
+-- the machines run together from the places of the initial state, and these are the only initial places
+pub machines-run : (p : TransitionSystem) (ms : Decomposition) → Within p → ((m : Machine) → List·Memᴰ m ms → Good p m) → ((m : Machine) → List·Memᴰ m ms → Listed p m)
+    → (es qs : List ℕ) → (productRuns p ms es ≡ some qs) ↔ MachinesRun p ms es qs
+unfolding productRuns
+machines-run p ms b g w es qs = (
+  λ h. record { start = places ms (p .initial); stands = stands-at p ms g (p .initial) (b .initial); walk = walks-iff p ms b g w es (places ms (p .initial)) qs .0 h },
+  λ x. walks-iff p ms b g w es (places ms (p .initial)) qs .1
+      (subst (λ (us : List ℕ). ProductWalk p ms us es qs) (stands-only p ms g (p .initial) (b .initial) (x .start) (x .stands)) (x .walk)),
+)
+
+-- the declared lists are those of the system's events
+pub of-system : (p : TransitionSystem) (es : List ℕ) → T (declared p es) ↔ OfSystem p es
+unfolding declared
+of-system p es = (
+  λ t e k. ltb→lt e (p .events) (every-elim (λ d. ltb d (p .events)) es t e k),
+  λ h. every-intro (λ d. ltb d (p .events)) es (λ e k. lt→ltb e (p .events) (h e k)),
+)
+
 -- ---- the machines past 10 are those of 000, section 2.4
 
 pub good-machine : (p : TransitionSystem) (m : Machine) → Listed p m → Good p m → IsMachine p m
@@ -170,8 +193,8 @@ good-machine p m w g =
       regions = λ r k. uniform-region p r (w r k) (λ e l. g .uniform e l r k);
     }
 
-pub machine-places : (p : TransitionSystem) (m : Machine) → IsMachine p m → (uncovered p m ≡ none) × (nonuniform p m ≡ none)
-unfolding uncovered
+pub machine-places : (p : TransitionSystem) (m : Machine) → IsMachine p m → (uncoveredState p m ≡ none) × (nonuniformEvent p m ≡ none)
+unfolding uncoveredState
 machine-places p m h = (
   none-lowest (λ s. not (elem s (flatten (m .places)))) (p .states) (λ s l. not-T (not (elem s (flatten (m .places)))) (λ x. contra (elem s (flatten (m .places))) x (covered s l))),
   regions-iff p m (λ r k. record { within = h .regions r k .within; nonempty = h .regions r k .nonempty }) .1 (h .regions),
@@ -183,7 +206,6 @@ machine-places p m h = (
         elem-flatten (m .places) (i .1 .place) s (at-mem (m .places) (i .0) (i .1 .place) (i .1 .numbered)) (i .1 .contains)
 
 pub derived : (p : TransitionSystem) (ms : Decomposition) → Within p → ((m : Machine) → List·Memᴰ m ms → Good p m) → ((m : Machine) → List·Memᴰ m ms → Listed p m) → Derived p ms
-unfolding productRuns
 derived p ms b g w =
     record {
       machine = λ m i. good-machine p m (w m i) (g m i);
@@ -194,9 +216,7 @@ derived p ms b g w =
       no-crossing = λ m i e n t k he q j. stay-in m i e n t k he q j (move-view p m e);
       starts = (places ms (p .initial), stands-at p ms g (p .initial) (b .initial));
       product = product-iff p ms b g w;
-      walks = λ ps es qs h.
-          subst (λ (us : List ℕ). (runs (productStep p ms) us es ≡ some qs) ↔ ProductWalk p ms ps es qs) (stands-only p ms g (p .initial) (b .initial) ps h)
-          (walks-iff p ms b g w es ps qs);
+      walks = machines-run p ms b g w;
     }
   where
     stay-in : (m : Machine) → List·Memᴰ m ms → (e : ℕ) → ¬ HasEvent p m e → (t : Transition) → List·Memᴰ t (p .transitions) → t .event ≡ e
@@ -232,6 +252,8 @@ pub is-transition-system : (p : TransitionSystem) → Within p → systemRefusal
 unfolding systemRuns
 is-transition-system p b n =
     record {
+      initial = b .initial;
+      within = λ t k. (b .source t k, b .event t k, b .target t k);
       no-self-loop = no-loop [] (p .transitions) (v .forks);
       occurs = v .busy;
       reachable = λ s l. (v .reach s l .list, system-walk p (v .forks) (v .reach s l .list) (p .initial) s .0 (v .reach s l .runs));

@@ -11,7 +11,7 @@ use lib.ListN.{length}
 use Rattle.model.specs.Lists.{At, every, index, count}
 use Rattle.model.specs.Refusal.{Refusal, refuse, Checked, refused, passed, need, _>>=_, _>>_}
 use Rattle.model.specs.TransitionSystem.{declared}
-use Rattle.model.specs.Machine.{places, irredundant}
+use Rattle.model.specs.Machine.{places, keptMarks}
 use Rattle.model.specs.Text.{Input, system}
 use Rattle.model.specs.Table.{Refused, Passes}
 use Rattle.model.specs.Services.{asFarAs12, Ran, runFrom, blocked, refusedBy, outcomeOf, ranAnswer, run, Kept, thin}
@@ -164,7 +164,7 @@ running s es = go (verdict12 s)
 -- ---- Thin
 
 unfoldable pub kept-of : Input → Kept
-kept-of v = record { marks = irredundant (system v) (v .machines); size = count (λ b. b) (irredundant (system v) (v .machines)) }
+kept-of v = record { marks = keptMarks (system v) (v .machines); size = count (λ b. b) (keptMarks (system v) (v .machines)) }
 
 pub thin-is : (s : List ℕ) (v : Input) → asFarAs12 s ≡ passed v → thin s ≡ passed (kept-of v)
 unfolding thin kept-of

@@ -9,7 +9,7 @@ use mathlib.Core.Option.{none}
 use lib.Dec.{T, eqb, eqb→eq}
 use Rattle.model.specs.Lists.{exists, every, count, isSome, elem}
 use Rattle.model.specs.TransitionSystem.{Transition, TransitionSystem, leads}
-use Rattle.model.specs.Machine.{Place, Machine, Decomposition, placeIn, placeOf, move, inAlphabet, effective, transitionsOf, enters, exits, allOrNone, uniform, nonuniform, inPre, ready, common, excited}
+use Rattle.model.specs.Machine.{Place, Machine, Decomposition, placeIn, placeOf, move, inAlphabet, effective, transitionsOf, enters, exits, allOrNone, uniform, nonuniformEvent, inPre, ready, common, excited}
 use Rattle.model.specs.Region.{Enter, Exit, RegionFor, IsRegion, statesOf, PrePlace, InES, Effective, ExcitationClosed}
 use Rattle.model.proofs.Laws.{dec, not-not, not-T, and-l, and-r, and-i, or-l, or-r, contra, eqb-of, exists-intro, exists-elim, every-elim, every-intro, satisfying-elim, lowest-none, none-lowest}
 use Rattle.model.proofs.Bounds.{Within, ListedPlace, Listed}
@@ -109,8 +109,8 @@ pub uniform-region : (p : TransitionSystem) (r : Place) → ListedPlace p r → 
 uniform-region p r w h = record { within = w .within; nonempty = w .nonempty; each = λ e l. uniform-region-for p r e (h e l) }
 
 -- refusal 10 is not issued for a machine exactly when all its places are regions
-pub regions-iff : (p : TransitionSystem) (m : Machine) → Listed p m → (nonuniform p m ≡ none) ↔ ((r : Place) → List·Memᴰ r (m .places) → IsRegion p (statesOf r))
-unfolding nonuniform
+pub regions-iff : (p : TransitionSystem) (m : Machine) → Listed p m → (nonuniformEvent p m ≡ none) ↔ ((r : Place) → List·Memᴰ r (m .places) → IsRegion p (statesOf r))
+unfolding nonuniformEvent
 regions-iff p m w = (
   λ n r k. uniform-region p r (w r k) (λ e l. every-elim (uniform p e) (m .places) (not-not (every (uniform p e) (m .places)) (lowest-none _ _ n e l)) r k),
   λ h. none-lowest (λ e. not (every (uniform p e) (m .places))) (p .events)

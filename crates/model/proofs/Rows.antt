@@ -3,28 +3,29 @@ use Prim.Native.Nat.{ℕ, zero, suc, _+_, _<_, _≤_}
 use native.Mathlib.Omega.{arith}
 use mathlib.Core.Path.{_≡_, refl, ap, sym, _∙_, subst}
 use mathlib.Core.Logic.{_⊎_, inl, inr}
-use mathlib.Core.Bool.{Bool, not, _&&_}
+use mathlib.Core.Bool.{Bool, not}
 use mathlib.Core.List.{List, [], _∷_, _++_, append-assoc, append-nil, List·Memᴰ, flatten}
 use mathlib.Core.Option.{none, Option·map, Option·none-ne-some}
-use lib.Dec.{T, eqb, ltb, eqb→eq, ltb→lt, lt→ltb, nltb→le}
+use lib.Dec.{T, eqb, ltb, eqb→eq, ltb→lt, lt→ltb}
 use lib.ListN.{length, length-append}
-use Rattle.model.specs.Lists.{At, exists, every, index, count, isSome, elem, lowest}
+use Rattle.model.specs.Lists.{At, exists, every, index, count, elem}
 use Rattle.model.specs.Refusal.{Refusal, refuse}
-use Rattle.model.specs.TransitionSystem.{Transition, TransitionSystem, leads, transitionLine, transitionRefusal, transitionsRefusal, unusedEvent, reached, unreachable, systemRefusal}
-use Rattle.model.specs.Machine.{Place, Machine, Decomposition, duplicated, uncovered, uniform, nonuniform, ineffective, effective, common, excited, excess, openEvent, closureRefusal, machineRefusal, machinesRefusal, coverRefusal}
-use Rattle.model.specs.Region.{Walk, stay, goes, statesOf, RegionFor, PrePlace}
+use Rattle.model.specs.TransitionSystem.{Transition, TransitionSystem, leads, transitionLine, transitionRefusal, transitionsRefusal, unusedEvent, reached, unreachableState, systemRefusal}
+use Rattle.model.specs.Machine.{Place, Machine, Decomposition, duplicateState, uncoveredState, uniform, nonuniformEvent, machineRefusal, machinesRefusal, coverRefusal}
+use Rattle.model.specs.Region.{Walk, stay, goes, statesOf, RegionFor}
 use Rattle.model.specs.Text.{Input, system, Limits}
-use Rattle.model.specs.Table.{Twice, Offence, phase, rank, NoLater}
-use Rattle.model.proofs.Laws.{dec, contra, not-T, and-l, and-r, and-i, eqb-of, neqb, below-suc, cond-true, cond-false, exists-intro, none-exists, not-exists, every-elim, not-every-elim, isSome-none, none-isSome, map-none, lowest-none, Lowest, found, absent, lowest-view}
+use Rattle.model.specs.Table.{Uncovered, Twice, Offence, phase, rank, NoLater}
+use Rattle.model.proofs.Laws.{dec, contra, not-T, and-l, and-r, eqb-of, neqb, below-suc, cond-true, cond-false, exists-intro, none-exists, not-exists, every-elim, not-every-elim}
 use Rattle.model.proofs.Positions.{at-below, at-mem, at-same, at-left, left-at, at-middle, index-at, index-first}
 use Rattle.model.proofs.Counting.{twice-count, count-twice}
-use Rattle.model.proofs.Bounds.{Within, Listed}
-use Rattle.model.proofs.Places.{Good, elem-flatten, home}
+use Rattle.model.proofs.Bounds.{Within}
+use Rattle.model.proofs.Places.{elem-flatten, home}
 use Rattle.model.proofs.Reach.{Leads, here, by, same-start, reached-sound, reached-complete}
 use Rattle.model.proofs.Passed.{machines-good}
-use Rattle.model.proofs.Regions.{region-uniform, uniform-region-for, effective-iff, common-iff, excited-iff}
-use Rattle.model.proofs.Order.{phase-first, detail-first, number-first, second-first, row-first, Decided, issued, none-holds, decided-same, decided-orElse, Lowered, decided-lowest}
+use Rattle.model.proofs.Regions.{region-uniform, uniform-region-for}
+use Rattle.model.proofs.Order.{Single, only, single-decided, single-phase, uncovered-number, phase-first, detail-first, number-first, second-first, row-first, Decided, issued, none-holds, decided-same, decided-orElse}
 use Rattle.model.proofs.Limits.{within-of, listed-of, mem-elem}
+use Rattle.model.proofs.Covering.{uncovered-decided}
 use Rattle.model.specs.Table as Row
 
 -- ---- 4 and 5
@@ -153,26 +154,6 @@ steps-decided before (t ∷ ts) all n z w =
 
 -- ---- 6 and 7
 
--- one row, with one detail below a bound
-abbrev Single : (ℕ → Refusal) → ℕ → (ℕ → Type 0) → Refusal → Type 0
-Single g bound Q r = (k : ℕ) × (k < bound) × Q k × (r ≡ g k)
-
-single-decided :
-    (g : ℕ → Refusal) (bound : ℕ) (f : ℕ → Bool) (Q : ℕ → Type 0) → ((j k : ℕ) → j ≤ k → NoLater (rank (g j)) (rank (g k)))
-    → ((k : ℕ) → k < bound → T (f k) → Q k) → ((k : ℕ) → k < bound → Q k → T (f k)) → Decided (Single g bound Q) (Option·map g (lowest f bound))
-single-decided g bound f Q up to from =
-    decided-same (Lowered g f bound) (Single g bound Q) _
-    (λ r w. (w .0, w .1, to (w .0) (w .1) (w .2), w .3))
-    (λ r w. (w .0, w .1, from (w .0) (w .1) (w .2), w .3))
-    (decided-lowest g f bound up)
-
--- the rows of an event or a state
-abbrev only : ℕ → ℕ → Refusal
-only n k = refuse n k 0
-
-single-phase : (n bound : ℕ) (Q : ℕ → Type 0) (r : Refusal) → Single (only n) bound Q r → phase (r .number) ≡ phase n
-single-phase n bound Q r w = ap (λ (x : Refusal). phase (x .number)) (w .3)
-
 walk-leads : {p : TransitionSystem} {s u : ℕ} {es : List ℕ} → Walk p s es u → Leads p s → Leads p u
 walk-leads stay l = l
 walk-leads (goes t k w) l = walk-leads w (by t k l)
@@ -201,8 +182,8 @@ module _ (p : TransitionSystem) where
       (λ e l h t k q. contra (eqb (t .event) e) (none-exists (λ (t : Transition). eqb (t .event) e) (p .transitions) h t k) (eqb-of (t .event) e q))
       (λ e l h. not-exists (λ (t : Transition). eqb (t .event) e) (p .transitions) (λ t k. neqb (t .event) e (h t k)))
 
-  unreached-decided : Within p → Decided (Single (only 7) (p .states) Unreached) (Option·map (λ s. refuse 7 s 0) (unreachable p))
-  unfolding unreachable
+  unreached-decided : Within p → Decided (Single (only 7) (p .states) Unreached) (Option·map (λ s. refuse 7 s 0) (unreachableState p))
+  unfolding unreachableState
   unreached-decided b =
       single-decided (only 7) (p .states) (λ s. not (elem s (reached p))) Unreached (λ j k. row-first 7 j k 0)
       (λ s l h es w. contra (elem s (reached p)) h (reached-complete p b s (walk-leads w here)))
@@ -243,14 +224,13 @@ system-decided v l = decided-same (SystemRows (system v)) (λ r. Offence v r × 
     from r (Row.duplicate k m s h w) n = absurd (omega arith)
     from r (Row.no-place k m s h b w) n = absurd (omega arith)
     from r (Row.no-region k m e p h b i w) n = absurd (omega arith)
-    from r (Row.on-no-machine e b w) n = absurd (omega arith)
-    from r (Row.not-closed e s b c h w) n = absurd (omega arith)
+    from r (Row.cover q x) n = absurd (omega (arith, uncovered-number (system v) (v .machines) q x .0))
 
 -- ---- 8 to 10
 
 module _ (p : TransitionSystem) (m : Machine) where
-  abbrev Uncovered : ℕ → Type 0
-  Uncovered s = (r : Place) → List·Memᴰ r (m .places) → ¬ T (elem s r)
+  abbrev InNoPlace : ℕ → Type 0
+  InNoPlace s = (r : Place) → List·Memᴰ r (m .places) → ¬ T (elem s r)
 
   abbrev NoRegion : ℕ → Type 0
   NoRegion e = (r : Place) × List·Memᴰ r (m .places) × (¬ RegionFor p e (statesOf r))
@@ -262,27 +242,27 @@ module _ (p : TransitionSystem) (m : Machine) where
     -- the rows of machine k
     data MachineRows : Refusal → Type 0 where
       eight : (s : ℕ) → s < p .states → TwiceListed s → MachineRows (refuse 8 k s)
-      nine : (s : ℕ) → s < p .states → Uncovered s → MachineRows (refuse 9 k s)
+      nine : (s : ℕ) → s < p .states → InNoPlace s → MachineRows (refuse 9 k s)
       ten : (e : ℕ) → e < p .events → NoRegion e → MachineRows (refuse 10 k e)
 
-    duplicated-decided : Decided (Single (refuse 8 k) (p .states) TwiceListed) (Option·map (refuse 8 k) (duplicated p m))
-    unfolding duplicated
+    duplicated-decided : Decided (Single (refuse 8 k) (p .states) TwiceListed) (Option·map (refuse 8 k) (duplicateState p m))
+    unfolding duplicateState
     duplicated-decided =
         single-decided (refuse 8 k) (p .states) (λ s. ltb 1 (count (eqb s) (flatten (m .places)))) TwiceListed
         (λ i j l. second-first (refuse 8 k i) (refuse 8 k j) refl refl l)
         (λ s l h. count-twice s (flatten (m .places)) (ltb→lt 1 (count (eqb s) (flatten (m .places))) h))
         (λ s l h. lt→ltb 1 (count (eqb s) (flatten (m .places))) (twice-count s (flatten (m .places)) h))
 
-    uncovered-decided : Decided (Single (refuse 9 k) (p .states) Uncovered) (Option·map (refuse 9 k) (uncovered p m))
-    unfolding uncovered
-    uncovered-decided =
-        single-decided (refuse 9 k) (p .states) (λ s. not (elem s (flatten (m .places)))) Uncovered
+    no-place-decided : Decided (Single (refuse 9 k) (p .states) InNoPlace) (Option·map (refuse 9 k) (uncoveredState p m))
+    unfolding uncoveredState
+    no-place-decided =
+        single-decided (refuse 9 k) (p .states) (λ s. not (elem s (flatten (m .places)))) InNoPlace
         (λ i j l. second-first (refuse 9 k i) (refuse 9 k j) refl refl l)
         (λ s l h r i t. contra (elem s (flatten (m .places))) h (elem-flatten (m .places) r s i t))
         (λ s l h. not-T (elem s (flatten (m .places))) (λ t. let w = home (m .places) s t in h (w .place) (w .listed) (w .holds)))
 
-    no-region-decided : Decided (Single (refuse 10 k) (p .events) NoRegion) (Option·map (refuse 10 k) (nonuniform p m))
-    unfolding nonuniform
+    no-region-decided : Decided (Single (refuse 10 k) (p .events) NoRegion) (Option·map (refuse 10 k) (nonuniformEvent p m))
+    unfolding nonuniformEvent
     no-region-decided =
         single-decided (refuse 10 k) (p .events) (λ e. not (every (uniform p e) (m .places))) NoRegion
         (λ i j l. second-first (refuse 10 k i) (refuse 10 k j) refl refl l)
@@ -293,7 +273,7 @@ module _ (p : TransitionSystem) (m : Machine) where
     Eight = Single (refuse 8 k) (p .states) TwiceListed
 
     abbrev Nine : Refusal → Type 0
-    Nine = Single (refuse 9 k) (p .states) Uncovered
+    Nine = Single (refuse 9 k) (p .states) InNoPlace
 
     abbrev Ten : Refusal → Type 0
     Ten = Single (refuse 10 k) (p .events) NoRegion
@@ -302,7 +282,7 @@ module _ (p : TransitionSystem) (m : Machine) where
     unfolding machineRefusal phase
     machine-decided =
         decided-same (λ r. Eight r ⊎ (Nine r ⊎ Ten r)) MachineRows _ to from
-        (decided-orElse Eight (λ r. Nine r ⊎ Ten r) _ _ duplicated-decided (decided-orElse Nine Ten _ _ uncovered-decided no-region-decided cross9) cross8)
+        (decided-orElse Eight (λ r. Nine r ⊎ Ten r) _ _ duplicated-decided (decided-orElse Nine Ten _ _ no-place-decided no-region-decided cross9) cross8)
       where
         ordered : (r q : Refusal) (a b s t : ℕ) → r ≡ refuse a k s → q ≡ refuse b k t → phase a ≡ phase b → a < b → NoLater (rank r) (rank q)
         ordered r q a b s t e f h l = rw (e, f) (number-first (refuse a k s) (refuse b k t) h refl l)
@@ -389,125 +369,21 @@ machines-decided v l =
     from r (Row.duplicate k m s h w) n o = one k k m (omega arith) h (eight s (low k m s h w) w)
     from r (Row.no-place k m s h b w) n o = one k k m (omega arith) h (nine s b w)
     from r (Row.no-region k m e p h b i w) n o = one k k m (omega arith) h (ten e b (p, i, w))
-    from r (Row.on-no-machine e b w) n o = absurd (omega arith)
-    from r (Row.not-closed e s b c h w) n o = absurd (omega arith)
+    from r (Row.cover q x) n o = absurd (omega (arith, uncovered-number (system v) (v .machines) q x .0))
 
 -- ---- 11 and 12
 
-module _ (p : TransitionSystem) (ms : Decomposition) where
-  abbrev beyond : ℕ → ℕ → Bool
-  beyond e s = common p ms e s && not (excited p e s)
-
-  -- row 12 in tests
-  abbrev Open : Refusal → Type 0
-  Open r = (e : ℕ) × (e < p .events) × Lowered (refuse 12 e) (beyond e) (p .states) r
-
-  excess-some : (e s : ℕ) → s < p .states → T (beyond e s) → T (isSome (excess p ms e))
-  unfolding excess
-  excess-some e s l t = go (dec (isSome (excess p ms e)))
-    where
-      go : T (isSome (excess p ms e)) ⊎ T (not (isSome (excess p ms e))) → T (isSome (excess p ms e))
-      go (inl u) = u
-      go (inr u) = absurd (contra (beyond e s) (lowest-none (beyond e) (p .states) (isSome-none (excess p ms e) u) s l) t)
-
-  excess-decided : (e : ℕ) → Decided (Lowered (refuse 12 e) (beyond e) (p .states)) (Option·map (refuse 12 e) (excess p ms e))
-  unfolding excess
-  excess-decided e = decided-lowest (refuse 12 e) (beyond e) (p .states) (λ i j l. second-first (refuse 12 e i) (refuse 12 e j) refl refl l)
-
-  open-decided : Decided Open (closureRefusal p ms (openEvent p ms))
-  unfolding closureRefusal openEvent
-  open-decided = go (lowest-view (λ e. isSome (excess p ms e)) (p .events))
-    where
-      go : Lowest (λ e. isSome (excess p ms e)) (p .events) → Decided Open (closureRefusal p ms (openEvent p ms))
-      go (absent q h) = none-holds (rw q) (λ r w. contra (isSome (excess p ms (w .0))) (h (w .0) (w .1)) (excess-some (w .0) (w .2 .0) (w .2 .1) (w .2 .2)))
-      go (found e q l t h) = inner (excess-decided e)
-        where
-          inner : Decided (Lowered (refuse 12 e) (beyond e) (p .states)) (Option·map (refuse 12 e) (excess p ms e)) → Decided Open (closureRefusal p ms (openEvent p ms))
-          inner (none-holds i n) = absurd (contra (isSome (excess p ms e)) (none-isSome (excess p ms e) (map-none (refuse 12 e) (excess p ms e) i)) t)
-          inner (issued r i w f) = issued r (rw q i) (e, l, w) first
-            where
-              first : (x : Refusal) → Open x → NoLater (rank r) (rank x)
-              first x y = order (dec (ltb (y .0) e))
-                where
-                  order : T (ltb (y .0) e) ⊎ T (not (ltb (y .0) e)) → NoLater (rank r) (rank x)
-                  order (inl u) = absurd (contra (isSome (excess p ms (y .0))) (h (y .0) (ltb→lt (y .0) e u)) (excess-some (y .0) (y .2 .0) (y .2 .1) (y .2 .2)))
-                  order (inr u) = split (below-suc e (y .0) (omega (arith, nltb→le (y .0) e u)))
-                    where
-                      split : (e < y .0) ⊎ (e ≡ y .0) → NoLater (rank r) (rank x)
-                      split (inl b) = rw (w .3, y .2 .3) (detail-first (refuse 12 e (w .0)) (refuse 12 (y .0) (y .2 .0)) refl b)
-                      split (inr b) = f x (subst (λ (d : ℕ). Lowered (refuse 12 d) (beyond d) (p .states) x) (sym b) (y .2))
-
-  abbrev Ineffective : ℕ → Type 0
-  Ineffective e = (r : Place) → ¬ PrePlace p ms e r
-
-  module _ (b : Within p) (g : (m : Machine) → List·Memᴰ m ms → Good p m) (w : (m : Machine) → List·Memᴰ m ms → Listed p m) where
-    ineffective-decided : Decided (Single (only 11) (p .events) Ineffective) (Option·map (only 11) (ineffective p ms))
-    unfolding ineffective
-    ineffective-decided =
-        single-decided (only 11) (p .events) (λ e. not (effective p ms e)) Ineffective (λ j k. row-first 11 j k 0)
-        (λ e l h r x. contra (effective p ms e) h (effective-iff p ms b g w e .1 (r, x)))
-        (λ e l h. not-T (effective p ms e) (λ t. let x = effective-iff p ms b g w e .0 t in h (x .0) (x .1)))
-
-    cover-rows : Decided (λ r. Single (only 11) (p .events) Ineffective r ⊎ Open r) (coverRefusal p ms)
-    unfolding coverRefusal phase
-    cover-rows = decided-orElse (Single (only 11) (p .events) Ineffective) Open _ _ ineffective-decided open-decided cross
-      where
-        cross : (r q : Refusal) → Single (only 11) (p .events) Ineffective r → Open q → NoLater (rank r) (rank q)
-        cross r q x y = rw (x .3, y .2 .3) (phase-first (only 11 (x .0)) (refuse 12 (y .0) (y .2 .0)) (omega arith))
-
-module _ (v : Input) (l : Limits v) (n : machinesRefusal (system v) 0 (v .machines) ≡ none) where
-  abbrev p : TransitionSystem
-  p = system v
-
-  abbrev ms : Decomposition
-  ms = v .machines
-
-  low : Within p
-  low = within-of v l
-
-  good : (m : Machine) → List·Memᴰ m ms → Good p m
-  good = machines-good p 0 ms n
-
-  listed : (m : Machine) → List·Memᴰ m ms → Listed p m
-  listed = listed-of v l
-
-  pub cover-decided : Decided (λ r. Offence v r × (10 < r .number)) (coverRefusal (system v) (v .machines))
-  cover-decided =
-      decided-same (λ r. Single (only 11) (p .events) (Ineffective p ms) r ⊎ Open p ms r) (λ r. Offence v r × (10 < r .number)) _ to (λ r w. from r (w .0) (w .1))
-      (cover-rows p ms low good listed)
-    where
-      to : (r : Refusal) → Single (only 11) (p .events) (Ineffective p ms) r ⊎ Open p ms r → Offence v r × (10 < r .number)
-      to r (inl x) = rw (x .3) (Row.on-no-machine (x .0) (x .1) (x .2), omega arith)
-      to r (inr x) = rw (x .2 .3) (closing (x .0) (x .1) (x .2 .0) (x .2 .1) (x .2 .2))
-        where
-          closing : (e : ℕ) → e < length (v .names) → (s : ℕ) → s < v .states → T (beyond p ms e s) → Offence v (refuse 12 e s) × (10 < 12)
-          closing e c s d t = (
-            Row.not-closed e s c d
-                (common-iff p ms low good listed e s d .0 (and-l (common p ms e s) (not (excited p e s)) t))
-                (λ y. contra (excited p e s) (and-r (common p ms e s) (not (excited p e s)) t) (excited-iff p ms low good listed e s .1 y)),
-            omega arith,
-          )
-
-      from : (r : Refusal) → Offence v r → 10 < r .number → Single (only 11) (p .events) (Ineffective p ms) r ⊎ Open p ms r
-      from r (Row.self-loop k t h e) o = absurd (omega arith)
-      from r (Row.fork j k t u b h i x y) o = absurd (omega arith)
-      from r (Row.unused e b h) o = absurd (omega arith)
-      from r (Row.unreached s b h) o = absurd (omega arith)
-      from r (Row.duplicate k m s h w) o = absurd (omega arith)
-      from r (Row.no-place k m s h b w) o = absurd (omega arith)
-      from r (Row.no-region k m e q h b i w) o = absurd (omega arith)
-      from r (Row.on-no-machine e b w) o = inl (e, b, w, refl)
-      from r (Row.not-closed e s c d h x) o =
-          inr (
-            e,
-            c,
-            (
-              s,
-              d,
-              and-i (common p ms e s) (not (excited p e s)) (common-iff p ms low good listed e s d .1 h)
-                  (not-T (excited p e s) (λ t. x (excited-iff p ms low good listed e s .0 t))),
-              refl,
-            ),
-          )
-
--- ---- all rows
+pub cover-decided : (v : Input) → Limits v → machinesRefusal (system v) 0 (v .machines) ≡ none → Decided (λ r. Offence v r × (10 < r .number)) (coverRefusal (system v) (v .machines))
+cover-decided v l n =
+    decided-same (Uncovered (system v) (v .machines)) (λ r. Offence v r × (10 < r .number)) _ (λ r x. (Row.cover r x, uncovered-number (system v) (v .machines) r x .0)) (λ r w. from r (w .0) (w .1))
+    (uncovered-decided (system v) (v .machines) (within-of v l) (machines-good (system v) 0 (v .machines) n) (listed-of v l))
+  where
+    from : (r : Refusal) → Offence v r → 10 < r .number → Uncovered (system v) (v .machines) r
+    from r (Row.self-loop k t h e) o = absurd (omega arith)
+    from r (Row.fork j k t u b h i x y) o = absurd (omega arith)
+    from r (Row.unused e b h) o = absurd (omega arith)
+    from r (Row.unreached s b h) o = absurd (omega arith)
+    from r (Row.duplicate k m s h w) o = absurd (omega arith)
+    from r (Row.no-place k m s h b w) o = absurd (omega arith)
+    from r (Row.no-region k m e q h b i w) o = absurd (omega arith)
+    from r (Row.cover q x) o = x

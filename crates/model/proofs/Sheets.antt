@@ -14,8 +14,8 @@ use Rattle.model.specs.TransitionSystem.{TransitionSystem}
 use Rattle.model.specs.Machine.{Machine, Decomposition, Move, placeOf, move}
 use Rattle.model.specs.Bytes.{digits, Name}
 use Rattle.model.specs.Text.{Input, system, Limits}
-use Rattle.model.specs.Services.{EventMove, addMove, movesBelow, SheetLine, sheetLine, sheetLines, writtenMove, writtenLine, sheet}
-use Rattle.model.specs.Demands.{Shows, Sheet}
+use Rattle.model.specs.Sheet.{EventMove, addMove, movesBelow, SheetLine, sheetLine, sheetLines, writtenMove, writtenLine, sheet}
+use Rattle.model.specs.Demands.{Shows}
 use Rattle.model.proofs.Laws.{dec, below-suc, T-true, T-false}
 use Rattle.model.proofs.Positions.{at-mem, mem-at, at-below, below-at}
 use Rattle.model.proofs.Bounds.{Within, Listed}
@@ -158,22 +158,31 @@ moves-length p m (suc n) = go (move p m n) (moves-length p m n)
     go none h = omega arith
     go (some v) h = omega (arith, length-append (movesBelow p m n) (entry n v ∷ []))
 
+-- What is printed of a machine is small: figures of two digits at most, and the events are declared.
+pub record Small (names : List Name) (l : SheetLine) : Type 0 where
+  pub number : l .number < 100
+  pub count : l .placeCount < 100
+  pub start : l .start < 100
+  pub most : length (l .moves) ≤ 64
+  pub event : (x : EventMove) → List·Memᴰ x (l .moves) → x .event < length names
+  pub pre : (x : EventMove) → List·Memᴰ x (l .moves) → x .pre < 100
+  pub post : (x : EventMove) → List·Memᴰ x (l .moves) → x .post < 100
+
 module _ (names : List Name) (short : (w : Name) → List·Memᴰ w names → length w ≤ 16) where
   move-fits : (x : EventMove) → x .pre < 100 → x .post < 100 → length (writtenMove names x) ≤ 30
   unfolding writtenMove
   move-fits x a b = simp length-append (omega (arith, name-short names short (x .event), digits-short (x .pre) a, digits-short (x .post) b))
 
-  line-fits : (l : SheetLine) → l .number < 100 → l .places < 100 → l .start < 100 → length (l .moves) ≤ 64
-      → ((x : EventMove) → List·Memᴰ x (l .moves) → (x .pre < 100) × (x .post < 100)) → length (writtenLine names l) ≤ 1956
+  line-fits : (l : SheetLine) → Small names l → length (writtenLine names l) ≤ 1956
   unfolding writtenLine
-  line-fits l a b c n h =
+  line-fits l a =
       simp length-append
       (omega (
         arith,
-        digits-short (l .number) a,
-        digits-short (l .places) b,
-        digits-short (l .start) c,
-        flat-length (writtenMove names) 30 (l .moves) (λ x k. move-fits x (h x k .0) (h x k .1)),
+        digits-short (l .number) (a .number),
+        digits-short (l .placeCount) (a .count),
+        digits-short (l .start) (a .start),
+        flat-length (writtenMove names) 30 (l .moves) (λ x k. move-fits x (a .pre x k) (a .post x k)),
       ))
 
 -- the number of a state's place is below the count of places, and so are those of a move
@@ -199,25 +208,30 @@ module _ (v : Input) (w : Limits v) (g : (m : Machine) → List·Memᴰ m (v .ma
         target = λ t k. w .transitions t k .target;
       }
 
-  one-fits : (k : ℕ) → k < 16 → (m : Machine) → List·Memᴰ m (v .machines) → length (writtenLine (v .names) (sheetLine (system v) k m)) ≤ 1956
+  one-small : (k : ℕ) → k < 16 → (m : Machine) → List·Memᴰ m (v .machines) → Small (v .names) (sheetLine (system v) k m)
   unfolding sheetLine
-  one-fits k l m i =
-      line-fits (v .names) (λ n j. w .names n j .most) (sheetLine (system v) k m) (omega arith) (omega (arith, most))
-      (omega (arith, most, place-low (system v) m (g m i) (v .initial) (bounds .initial)))
-      (omega (arith, moves-length (system v) m (length (v .names)), w .names-most)) at
+  one-small k l m i =
+      record {
+        number = omega arith;
+        count = omega (arith, most);
+        start = omega (arith, most, place-low (system v) m (g m i) (v .initial) (bounds .initial));
+        most = omega (arith, moves-length (system v) m (length (v .names)), w .names-most);
+        event = λ x j. in-moves (system v) m (length (v .names)) x j .low;
+        pre = λ x j. omega (arith, most, low x j .0);
+        post = λ x j. omega (arith, most, low x j .1);
+      }
     where
       most : length (m .places) ≤ 64
       most = w .machines m i .most
 
-      at : (x : EventMove) → List·Memᴰ x (movesBelow (system v) m (length (v .names))) → (x .pre < 100) × (x .post < 100)
-      at x j =
-          let z = move-low (system v) m bounds (g m i) (x .event) (record { pre = x .pre; post = x .post }) (in-moves (system v) m (length (v .names)) x j .is) in
-          (omega (arith, most, z .0), omega (arith, most, z .1))
+      low : (x : EventMove) → List·Memᴰ x (movesBelow (system v) m (length (v .names))) → (x .pre < length (m .places)) × (x .post < length (m .places))
+      low x j =
+          move-low (system v) m bounds (g m i) (x .event) (record { pre = x .pre; post = x .post }) (in-moves (system v) m (length (v .names)) x j .is)
 
-  lines-fit : (l : SheetLine) → List·Memᴰ l (sheetLines (system v) 0 (v .machines)) → length (writtenLine (v .names) l) ≤ 1956
-  lines-fit l i =
-      subst (λ (z : SheetLine). length (writtenLine (v .names) z) ≤ 1956) (at-lines (system v) (v .machines) 0 (a .0) (c .0) l (c .1) (a .1))
-      (one-fits (0 + a .0) (omega (arith, low, w .machines-most)) (c .0) (at-mem (v .machines) (a .0) (c .0) (c .1)))
+  pub lines-small : (l : SheetLine) → List·Memᴰ l (sheetLines (system v) 0 (v .machines)) → Small (v .names) l
+  lines-small l i =
+      subst (Small (v .names)) (at-lines (system v) (v .machines) 0 (a .0) (c .0) l (c .1) (a .1))
+      (one-small (0 + a .0) (omega (arith, low, w .machines-most)) (c .0) (at-mem (v .machines) (a .0) (c .0) (c .1)))
     where
       a : (k : ℕ) × At (sheetLines (system v) 0 (v .machines)) k l
       a = mem-at (sheetLines (system v) 0 (v .machines)) l i
@@ -237,17 +251,6 @@ module _ (v : Input) (w : Limits v) (g : (m : Machine) → List·Memᴰ m (v .ma
         w .machines-most,
         digits-short (length (v .machines)) (omega (arith, w .machines-most)),
         lines-length (system v) (v .machines) 0,
-        flat-length (writtenLine (v .names)) 1956 (sheetLines (system v) 0 (v .machines)) lines-fit,
+        flat-length (writtenLine (v .names)) 1956 (sheetLines (system v) 0 (v .machines))
+            (λ l i. line-fits (v .names) (λ n j. w .names n j .most) l (lines-small l i)),
       ))
-
--- "The sheet shows exactly the machines which that theory derives."
-pub sheet-of : (v : Input) → Limits v → Within (system v) → ((m : Machine) → List·Memᴰ m (v .machines) → Good (system v) m)
-    → ((m : Machine) → List·Memᴰ m (v .machines) → Listed (system v) m) → Sheet v
-sheet-of v w b g h =
-    record {
-      one-each = lines-length (system v) (v .machines) 0;
-      shows = λ k m l a c.
-          let z : 0 + k ≡ k = omega arith in
-          subst (λ (i : ℕ). Shows (system v) i m l) z (lines-shown (system v) (v .machines) b g h 0 k m l a c);
-      fits = sheet-fits v w g;
-    }

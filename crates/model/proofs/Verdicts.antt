@@ -7,7 +7,7 @@ use mathlib.Core.Bool.{not}
 use mathlib.Core.List.{List}
 use mathlib.Core.Option.{Option, none, some}
 use lib.Dec.{T, leb, leb→le, nleb→lt}
-use Rattle.model.specs.Refusal.{Refusal, Checked, refused, passed, clear, _>>=_, _>>_}
+use Rattle.model.specs.Refusal.{Refusal, Checked, refused, passed, unless, _>>=_, _>>_}
 use Rattle.model.specs.TransitionSystem.{systemRefusal}
 use Rattle.model.specs.Machine.{machinesRefusal, coverRefusal}
 use Rattle.model.specs.Text.{Input, system, read, Reads}
@@ -83,16 +83,16 @@ module _ (n m : ℕ) (group : (n ≡ 3) ⊎ ((n ≡ 7) ⊎ (n ≡ 10))) (more : 
     of-value q l (inl x) = absurd (reads-no-offence s v (p .reads) q x)
     of-value q l (inr w) = subst (λ (u : Input). Offence u q) (reads-unique s (w .0) v (w .1) (p .reads)) (w .2)
 
-    next-verdict : (o : Option Refusal) → Decided (λ r. Offence v r × (n < r .number) × (r .number ≤ m)) o → Verdict m s (clear o >> passed v)
+    next-verdict : (o : Option Refusal) → Decided (λ r. Offence v r × (n < r .number) × (r .number ≤ m)) o → Verdict m s (unless o >> passed v)
     next-verdict o (issued r e x f) =
-        turned-down r (ap (λ (a : Option Refusal). clear a >> passed v) e)
+        turned-down r (ap (λ (a : Option Refusal). unless a >> passed v) e)
         (record { row = x .2; holds = inr (v, p .reads, x .0); first = λ q l y. go q l y (split (q .number)) })
       where
         go : (q : Refusal) → q .number ≤ m → Offends s q → (q .number ≤ n) ⊎ (n < q .number) → NoLater (rank r) (rank q)
         go q l y (inl h) = absurd (p .clear q h y)
         go q l y (inr h) = f q (of-value q h y, h, l)
     next-verdict o (none-holds e f) =
-        let-through v (ap (λ (a : Option Refusal). clear a >> passed v) e)
+        let-through v (ap (λ (a : Option Refusal). unless a >> passed v) e)
         (record { reads = p .reads; clear = λ q l y. go q l y (split (q .number)) })
       where
         go : (q : Refusal) → q .number ≤ m → Offends s q → (q .number ≤ n) ⊎ (n < q .number) → ⊥
@@ -103,10 +103,10 @@ module _ (n m : ℕ) (group : (n ≡ 3) ⊎ ((n ≡ 7) ⊎ (n ≡ 10))) (more : 
       (c : Checked Input) (next : Input → Option Refusal)
       → Verdict n s c
       → ((v : Input) → c ≡ passed v → Passes n s v → Decided (λ r. Offence v r × (n < r .number) × (r .number ≤ m)) (next v))
-      → Verdict m s (c >>= λ v. clear (next v) >> passed v)
-  further c next (turned-down r e f) d = turned-down r (ap (λ (a : Checked Input). a >>= λ v. clear (next v) >> passed v) e) (still-refused r f)
+      → Verdict m s (c >>= λ v. unless (next v) >> passed v)
+  further c next (turned-down r e f) d = turned-down r (ap (λ (a : Checked Input). a >>= λ v. unless (next v) >> passed v) e) (still-refused r f)
   further c next (let-through v e p) d =
-      subst (λ (a : Checked Input). Verdict m s (a >>= λ w. clear (next w) >> passed w)) (sym e) (next-verdict v p (next v) (d v e p))
+      subst (λ (a : Checked Input). Verdict m s (a >>= λ w. unless (next w) >> passed w)) (sym e) (next-verdict v p (next v) (d v e p))
 
 pub verdict7 : (s : List ℕ) → Verdict 7 s (asFarAs7 s)
 unfolding asFarAs7
@@ -123,11 +123,11 @@ verdict10 s =
     further 7 10 (inr (inl refl)) (omega arith) s (asFarAs7 s) (λ v. machinesRefusal (system v) 0 (v .machines)) (verdict7 s) (λ v e p. machines-decided v (p .reads .1))
 
 -- a check that passed had nothing to refuse
-clear-none : (o : Option Refusal) (v w : Input) → (clear o >> passed v) ≡ passed w → (o ≡ none) × (v ≡ w)
+clear-none : (o : Option Refusal) (v w : Input) → (unless o >> passed v) ≡ passed w → (o ≡ none) × (v ≡ w)
 clear-none none v w e = (refl, cc)
 clear-none (some r) v w e = absurd (refused-passed r w e)
 
-pub passed-clear : (c : Checked Input) (next : Input → Option Refusal) (v : Input) → (c >>= λ w. clear (next w) >> passed w) ≡ passed v → (c ≡ passed v) × (next v ≡ none)
+pub passed-clear : (c : Checked Input) (next : Input → Option Refusal) (v : Input) → (c >>= λ w. unless (next w) >> passed w) ≡ passed v → (c ≡ passed v) × (next v ≡ none)
 passed-clear (refused r) next v e = absurd (refused-passed r v e)
 passed-clear (passed w) next v e = let h = clear-none (next w) w v e in (ap {B = Checked Input} passed (h .1), subst (λ (u : Input). next u ≡ none) (h .1) (h .0))
 

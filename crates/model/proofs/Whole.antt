@@ -10,9 +10,9 @@ use lib.ListN.{length, take, drop, length-append, length-drop, take-append-drop,
 use lib.Seq.{length-take-le}
 use Rattle.model.specs.Lists.{exists, count}
 use Rattle.model.specs.Refusal.{Refusal, refuse, Checked, refused, passed, need, _>>_}
-use Rattle.model.specs.Reading.{Out, fail, got}
-use Rattle.model.specs.Form.{Line, written, isMachine, lineAfter}
-use Rattle.model.specs.Text.{Input, valueOf, within, known, nextLine, ended, lineThen, linesFrom, read, linesOf, write, Reads}
+use Rattle.model.specs.Reading.{Parsed, fail, got}
+use Rattle.model.specs.Form.{Line, written, isMachineLine, lineAfter}
+use Rattle.model.specs.Text.{Input, valueOf, inLimit, isDeclared, nextLine, ended, lineThen, linesFrom, read, linesOf, write, Reads}
 use Rattle.model.specs.Table.{Begins, start, next, LineNext, OverLimit, Undeclared, TextOffence, too-long, malformed, missing-line, over-limit, no-machine, undeclared, Offends, rank, NoLater}
 use Rattle.model.proofs.Laws.{dec, T-true, T-false, cond-true, cond-false, order}
 use Rattle.model.proofs.Counting.{count-some, count-none}
@@ -27,7 +27,7 @@ pub data Bad (ls : List Line) (rest : List ℕ) : ℕ → Type 0 where
   unformed : ¬ (rest ≡ []) → ¬ LineNext ls rest → Bad ls rest 1
   missing : rest ≡ [] → length ls < 2 → Bad ls rest 1
   over : (l : Line) (after : List ℕ) → Proper ls l → rest ≡ written l ++ after → OverLimit ls l → Bad ls rest 2
-  machineless : rest ≡ [] → 2 ≤ length ls → count isMachine ls ≡ 0 → Bad ls rest 2
+  machineless : rest ≡ [] → 2 ≤ length ls → count isMachineLine ls ≡ 0 → Bad ls rest 2
   unknown : (l : Line) (after : List ℕ) → Proper ls l → rest ≡ written l ++ after → Undeclared ls l → Bad ls rest 3
 
 bad-row : (ls : List Line) (rest : List ℕ) (n : ℕ) → Bad ls rest n → (1 ≤ n) × (n ≤ 3)
@@ -93,11 +93,11 @@ module _ (ls : List Line) (rest : List ℕ) (l : Line) (after : List ℕ) (g : P
   not-3 f n (unknown k t h p u) = f .declared (subst (λ (x : Line). Undeclared ls x) (is-next k t h p) u)
 
 -- at the end of complete lines
-end-clear : (ls : List Line) → 2 ≤ length ls → T (exists isMachine ls) → (n : ℕ) → ¬ Bad ls [] n
+end-clear : (ls : List Line) → 2 ≤ length ls → T (exists isMachineLine ls) → (n : ℕ) → ¬ Bad ls [] n
 end-clear ls h t n (unformed a b) = a refl
 end-clear ls h t n (missing a b) = omega arith
 end-clear ls h t n (over l after g e o) = written-not-empty l after (sym e)
-end-clear ls h t n (machineless a b c) = let p : 1 ≤ count isMachine ls = count-some isMachine ls t in omega arith
+end-clear ls h t n (machineless a b c) = let p : 1 ≤ count isMachineLine ls = count-some isMachineLine ls t in omega arith
 end-clear ls h t n (unknown l after g e u) = written-not-empty l after (sym e)
 
 -- complete lines leave no offence
@@ -157,9 +157,9 @@ module _ (s : List ℕ) (ls : List Line) (fine : Each Fine [] ls) where
 
   at-end : Begins s ls [] → Result s (ended ls)
   unfolding ended
-  at-end b = go (leb 2 (length ls)) refl (exists isMachine ls) refl
+  at-end b = go (leb 2 (length ls)) refl (exists isMachineLine ls) refl
     where
-      go : (x : Bool) → leb 2 (length ls) ≡ x → (y : Bool) → exists isMachine ls ≡ y
+      go : (x : Bool) → leb 2 (length ls) ≡ x → (y : Bool) → exists isMachineLine ls ≡ y
           → Result s (need (refuse 1 (nextLine ls) 0) x >> (need (refuse 2 (nextLine ls) 0) y >> passed (valueOf ls)))
       go false p y q =
           stops (refuse 1 (nextLine ls) 0) refl
@@ -167,7 +167,7 @@ module _ (s : List ℕ) (ls : List Line) (fine : Each Fine [] ls) where
       go true p false q =
           let h : 2 ≤ length ls = leb→le 2 (length ls) (subst T (sym p) tt) in
           stops (refuse 2 (nextLine ls) 0) refl
-          (stop [] 2 b (machineless refl h (count-none isMachine ls (subst (λ (z : Bool). T (not z)) (sym q) tt))) (λ m d. below-2 h m d))
+          (stop [] 2 b (machineless refl h (count-none isMachineLine ls (subst (λ (z : Bool). T (not z)) (sym q) tt))) (λ m d. below-2 h m d))
         where
           below-2 : 2 ≤ length ls → (m : ℕ) → Bad ls [] m → 2 ≤ m
           below-2 h m (unformed a c) = absurd (a refl)
@@ -189,9 +189,9 @@ module _ (s : List ℕ) (ls : List Line) (fine : Each Fine [] ls) where
       → (Begins s (ls ++ (l ∷ [])) after → Each Fine [] (ls ++ (l ∷ [])) → Result s (more (ls ++ (l ∷ [])) at))
       → Result s (lineThen ls (got l at) more)
   unfolding lineThen
-  at-line rest l after at more b g e ih = go (within ls l) refl (known ls l) refl
+  at-line rest l after at more b g e ih = go (inLimit ls l) refl (isDeclared ls l) refl
     where
-      go : (x : Bool) → within ls l ≡ x → (y : Bool) → known ls l ≡ y
+      go : (x : Bool) → inLimit ls l ≡ x → (y : Bool) → isDeclared ls l ≡ y
           → Result s (need (refuse 2 (nextLine ls) 0) x >> (need (refuse 3 (nextLine ls) 0) y >> more (ls ++ (l ∷ [])) at))
       go false p y q =
           stops (refuse 2 (nextLine ls) 0) refl
@@ -224,7 +224,7 @@ unfolding linesFrom
 loop zero s ls at h k b f = absurd (omega arith)
 loop (suc k) s ls at h fuel b f = go (dec (leb (length s) at)) (loop k s)
   where
-    line-found : (o : Out Line) → lineAfter ls s at ≡ o → at < length s
+    line-found : (o : Parsed Line) → lineAfter ls s at ≡ o → at < length s
         → ((ks : List Line) (to : ℕ) → to ≤ length s → length s < k + to → Begins s ks (drop to s) → Each Fine [] ks → Result s (linesFrom k s ks to))
         → Result s (lineThen ls o (linesFrom k s))
     line-found fail e p ih = at-none s ls f (drop at s) (linesFrom k s) b (drop-empty s at p) (not-next ls s at h e)

@@ -10,7 +10,7 @@ use lib.Dec.{T, leb, ltb, eqb, leb→le, le→leb, ltb→lt, lt→ltb, nltb→le
 use lib.ListN.{length, take, drop, getD, length-append, length-drop, take-append-drop}
 use lib.Seq.{length-take-le, drop-drop, drop-append-seam, take-append-seam}
 use Rattle.model.specs.Bytes.{leading, starts, isDigit, isLetter, isNameByte, isFigure, isName, decimal, digits, Name, IsName}
-use Rattle.model.specs.Reading.{Out, fail, got, Reader, after, litBytes, part, figure, name, more, atMost, many, items}
+use Rattle.model.specs.Reading.{Parsed, fail, got, Reader, after, litBytes, part, figure, name, more, atMost, many, items}
 use Rattle.model.proofs.Laws.{dec, and-l, and-r, and-i, cond-true, cond-false, neqb, not-below}
 
 -- what holds of each element
@@ -54,10 +54,10 @@ spans-part s at k next e h =
 
 -- one reader after another
 module _ {A B : Type 0} where
-  pub done : (o : Out A) (f : A → ℕ → Out B) {r : Out B} (x : A) (m : ℕ) → o ≡ got x m → f x m ≡ r → after o f ≡ r
+  pub done : (o : Parsed A) (f : A → ℕ → Parsed B) {r : Parsed B} (x : A) (m : ℕ) → o ≡ got x m → f x m ≡ r → after o f ≡ r
   done o f x m e h = rw e h
 
-  pub by : {C : Type 0} (o : Out A) (f : A → ℕ → Out B) {b : B} {n : ℕ} → after o f ≡ got b n
+  pub by : {C : Type 0} (o : Parsed A) (f : A → ℕ → Parsed B) {b : B} {n : ℕ} → after o f ≡ got b n
       → ((x : A) (m : ℕ) → o ≡ got x m → f x m ≡ got b n → C) → C
   by fail f e k = let z : _≡_ {A = ℕ} 0 1 = cc in absurd (omega arith)
   by (got x m) f e k = k x m refl e
@@ -160,10 +160,10 @@ pub digits-three : (n : ℕ) → 100 ≤ n → digits n ≡ (48 + n / 100) ∷ (
 unfolding digits
 digits-three n l = cond-false (ltb n 10) _ _ (not-below n 10 (omega arith)) ∙ cond-false (ltb n 100) _ _ (not-below n 100 l)
 
-abbrev AsDigit : ℕ → Type 0
+abbrev pub AsDigit : ℕ → Type 0
 AsDigit b = T (isDigit b)
 
-digit : (b : ℕ) → 48 ≤ b → b ≤ 57 → AsDigit b
+pub digit : (b : ℕ) → 48 ≤ b → b ≤ 57 → AsDigit b
 unfolding isDigit
 digit b l h = and-i (leb 48 b) (leb b 57) (le→leb 48 b l) (le→leb b 57 h)
 
@@ -340,7 +340,7 @@ module _ {A : Type 0} (r : Reader A) (W : A → List ℕ) (Ok : A → Type 0) wh
     atMost-sound zero s at = (each-nil Ok, spans-nil s at)
     atMost-sound (suc k) s at = go (r s at) refl (atMost-sound k s)
       where
-        go : (o : Out A) → r s at ≡ o
+        go : (o : Parsed A) → r s at ≡ o
             → ((m : ℕ) → EachOk (atMost k r s m .0) × Spans s m (flatMap W (atMost k r s m .0)) (atMost k r s m .1))
             → EachOk (more o at (atMost k r s) .0) × Spans s at (flatMap W (more o at (atMost k r s) .0)) (more o at (atMost k r s) .1)
         go fail e ih = (each-nil Ok, spans-nil s at)

@@ -1,13 +1,12 @@
 -- Bytes: quoted text, figures and names. Document 01, "The text".
 use Prim.Native.Nat.{ℕ, zero, suc, _+_, _-_, _*_, _/_, _%_, _≤_}
 use Prim.Native.Char.{code}
-use Prim.Native.String as S
 use Prim.Native.String.{String}
-use mathlib.Core.Path.{_≡_}
-use mathlib.Core.List.{List, [], _∷_, List·Memᴰ}
 use mathlib.Core.Bool.{Bool, true, false, not, cond, _&&_, _||_}
+use mathlib.Core.List.{List, [], _∷_, _++_, List·Memᴰ}
 use lib.Dec.{T, leb, ltb, eqb}
 use lib.ListN.{length, getD}
+use Prim.Native.String as S
 
 -- a quoted text as bytes
 abbrev pub bytes : String → List ℕ
@@ -56,6 +55,14 @@ digits n =
     (ltb n 10)
     ((48 + n) ∷ [])
     (cond (ltb n 100) ((48 + n / 10) ∷ (48 + n % 10) ∷ []) ((48 + n / 100) ∷ (48 + n / 10 % 10) ∷ (48 + n % 10) ∷ []))
+
+-- any number below 10 ^ 20, in base ten; the details of a refusal go past 999
+unfoldable pub numeralUpTo : ℕ → ℕ → List ℕ
+numeralUpTo zero n = (48 + n % 10) ∷ []
+numeralUpTo (suc k) n = cond (ltb n 10) ((48 + n) ∷ []) (numeralUpTo k (n / 10) ++ ((48 + n % 10) ∷ []))
+
+unfoldable pub numeral : ℕ → List ℕ
+numeral = numeralUpTo 19
 
 abbrev pub Name : Type 0
 Name = List ℕ

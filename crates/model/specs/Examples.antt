@@ -5,15 +5,16 @@ use mathlib.Core.Path.{_≡_, refl}
 use mathlib.Core.Bool.{Bool, true, false}
 use mathlib.Core.List.{List, [], _∷_, flatMap, flatten}
 use mathlib.Core.Option.{orElse}
-use lib.ListN.{length, replicate, take}
+use lib.ListN.{length, replicate}
 use Rattle.model.specs.Lists.{exists, every, first, index, count, satisfying, isSome, isEmpty, elem, lowest}
-use Rattle.model.specs.Refusal.{Refusal, refuse, Checked, refused, passed}
-use Rattle.model.specs.TransitionSystem.{leads, systemStep, andThen, runs, systemRuns, declared, transitionRefusal, transitionsRefusal, unusedEvent, leavesSet, withTarget, grown, reached, unreachable, systemRefusal}
-use Rattle.model.specs.Machine.{placeIn, places, crosses, move, inAlphabet, effective, moveFrom, fire, both, fireAll, productStep, productRuns, duplicated, uncovered, transitionsOf, enters, exits, allOrNone, uniform, nonuniform, ineffective, inPre, ready, common, excited, excess, openEvent, closureRefusal, machineRefusal, machinesRefusal, coverRefusal, select, suffices, tryDrop, thinBelow, irredundant}
+use Rattle.model.specs.Refusal.{Refusal, refuse, refused, passed}
+use Rattle.model.specs.TransitionSystem.{leads, systemStep, andThen, runs, systemRuns, declared, transitionRefusal, transitionsRefusal, unusedEvent, leavesSet, withTarget, grown, reached, unreachableState, systemRefusal}
+use Rattle.model.specs.Machine.{placeIn, places, crosses, move, inAlphabet, effective, moveFrom, fire, both, fireAll, productStep, productRuns, duplicateState, uncoveredState, transitionsOf, enters, exits, allOrNone, uniform, nonuniformEvent, ineffectiveEvent, inPre, ready, common, excited, openState, openEvent, closureRefusal, machineRefusal, machinesRefusal, coverRefusal, select, suffices, tryDrop, thinBelow, keptMarks}
 use Rattle.model.specs.Bytes.{bytes, isDigit, isLetter, isNameByte, isFigure, isName, digits}
-use Rattle.model.specs.Form.{isMachine, isStep, statesLine, spacedName, eventsLine, stepLine, spacedFigure, place, machineLine, lineAfter}
-use Rattle.model.specs.Text.{eventNumber, valueOf, distinct, within, known, ended, lineThen, linesFrom, read}
-use Rattle.model.specs.Services.{asFarAs7, asFarAs10, asFarAs12, Lent, lend, addMove, movesBelow, sheetLine, sheetLines, writtenMove, writtenLine, sheet, check, blocker, oneMore, runFrom, Outcome, whole, blocked, refusedBy, RunAnswer, outcomeOf, ranAnswer, run, Kept, thin}
+use Rattle.model.specs.Form.{isMachineLine, isStepLine, statesLine, spacedName, eventsLine, stepLine, spacedFigure, place, machineLine, lineAfter}
+use Rattle.model.specs.Text.{eventNumber, valueOf, distinct, inLimit, isDeclared, ended, lineThen, linesFrom, read}
+use Rattle.model.specs.Sheet.{addMove, movesBelow, sheetLine, sheetLines, writtenMove, writtenLine, sheet}
+use Rattle.model.specs.Services.{asFarAs7, asFarAs10, asFarAs12, lend, check, blocker, oneMore, runFrom, Outcome, whole, blocked, outcomeOf, ranAnswer, run, thin}
 
 -- the plan Y and its two machines
 abbrev pub Y : String
@@ -35,7 +36,7 @@ Q2 = "(machine (0) (1 2))\n"
 abbrev pub single : String
 single = "(states 1)\n(events)\n(machine (0))\n"
 
--- check: the text is lent as many zeros as the sheet has bytes
+-- check with just as many bytes lent as the sheet has
 unfoldable pub Writes : String → String → Type 0
 Writes text sheet = check (bytes text) (replicate (length (bytes sheet)) 0) ≡ record { answer = passed (length (bytes sheet)); left = bytes sheet }
 
@@ -61,7 +62,7 @@ pub record Starred : Type 0 where
   pub one-state : Writes single "(accepted 1)\n(machine 0 (places 1) (start 0))\n"
 
 pub starred : Starred
-unfolding Writes Refuses Runs Keeps exists every first index count satisfying isSome isEmpty elem lowest orElse flatten flatMap leads systemStep andThen runs systemRuns declared transitionRefusal transitionsRefusal unusedEvent leavesSet withTarget grown reached unreachable systemRefusal placeIn places crosses move inAlphabet effective moveFrom fire both fireAll productStep productRuns duplicated uncovered transitionsOf enters exits allOrNone uniform nonuniform ineffective inPre ready common excited excess openEvent closureRefusal machineRefusal machinesRefusal coverRefusal select suffices tryDrop thinBelow irredundant isDigit isLetter isNameByte isFigure isName digits isMachine isStep statesLine spacedName eventsLine stepLine spacedFigure place machineLine lineAfter eventNumber valueOf distinct within known ended lineThen linesFrom read asFarAs7 asFarAs10 asFarAs12 lend addMove movesBelow sheetLine sheetLines writtenMove writtenLine sheet check blocker oneMore runFrom outcomeOf ranAnswer run thin
+unfolding Writes Refuses Runs Keeps exists every first index count satisfying isSome isEmpty elem lowest orElse flatten flatMap leads systemStep andThen runs systemRuns declared transitionRefusal transitionsRefusal unusedEvent leavesSet withTarget grown reached unreachableState systemRefusal placeIn places crosses move inAlphabet effective moveFrom fire both fireAll productStep productRuns duplicateState uncoveredState transitionsOf enters exits allOrNone uniform nonuniformEvent ineffectiveEvent inPre ready common excited openState openEvent closureRefusal machineRefusal machinesRefusal coverRefusal select suffices tryDrop thinBelow keptMarks isDigit isLetter isNameByte isFigure isName digits isMachineLine isStepLine statesLine spacedName eventsLine stepLine spacedFigure place machineLine lineAfter eventNumber valueOf distinct inLimit isDeclared ended lineThen linesFrom read asFarAs7 asFarAs10 asFarAs12 lend addMove movesBelow sheetLine sheetLines writtenMove writtenLine sheet check blocker oneMore runFrom outcomeOf ranAnswer run thin
 starred =
     record {
       y = refl;

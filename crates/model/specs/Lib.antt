@@ -7,6 +7,7 @@ pub mod Bytes
 pub mod Reading
 pub mod Form
 pub mod Text
+pub mod Sheet
 pub mod Table
 pub mod Services
 pub mod Demands

@@ -36,15 +36,16 @@ places ms s = map (λ (m : Machine). placeOf m s) ms
 unfoldable pub crosses : Machine → ℕ → Transition → Bool
 crosses m e t = eqb (t .event) e && not (eqb (placeOf m (t .source)) (placeOf m (t .target)))
 
+-- the pre-place and the post-place of an event on a machine
 pub record Move : Type 0 where
   pub pre : ℕ
   pub post : ℕ
 
--- "An event is on a machine if a step of it leads from one place to another": its pre-place and its post-place; none if it is not on the machine
+-- "An event is on a machine if a step of it leads from one place to another." None: it is not on the machine
 unfoldable pub move : TransitionSystem → Machine → ℕ → Option Move
 move ts m e = Option·map (λ (t : Transition). record { pre = placeOf m (t .source); post = placeOf m (t .target) }) (first (crosses m e) (ts .transitions))
 
--- the event is on the machine: in the machine's alphabet
+-- the event is on the machine, in the machine's alphabet
 unfoldable pub inAlphabet : TransitionSystem → ℕ → Machine → Bool
 inAlphabet ts e m = isSome (move ts m e)
 
@@ -52,28 +53,30 @@ inAlphabet ts e m = isSome (move ts m e)
 unfoldable pub effective : TransitionSystem → Decomposition → ℕ → Bool
 effective ts ms e = exists (inAlphabet ts e) ms
 
--- Running together is the synchronous product. "An event runs if it is on some machine and each machine that it is on stands in its pre-place;
--- these go to its post-place and the others stay. An event on no machine never runs."
+-- from place q: the machine goes to the post-place, blocks outside the pre-place, and stays if the event is not on it
 unfoldable pub moveFrom : ℕ → Option Move → Option ℕ
 moveFrom q none = some q
 moveFrom q (some v) = cond (eqb q (v .pre)) (some (v .post)) none
 
--- one machine in place q: where it stands once e has run; none if it blocks
+-- where a machine in place q stands once e has run; none if it blocks
 unfoldable pub fire : TransitionSystem → Machine → ℕ → ℕ → Option ℕ
 fire ts m e q = moveFrom q (move ts m e)
 
+-- the first place and the others, if all are there
 unfoldable pub both : Option ℕ → Option (List ℕ) → Option (List ℕ)
 both none o = none
 both (some q) none = none
 both (some q) (some qs) = some (q ∷ qs)
 
--- every machine moves or stays; none if one blocks
+-- where all stand once e has run; none if one blocks
 unfoldable pub fireAll : TransitionSystem → ℕ → Decomposition → List ℕ → Option (List ℕ)
 fireAll ts e [] [] = some []
 fireAll ts e [] (q ∷ qs) = none
 fireAll ts e (m ∷ ms) [] = none
 fireAll ts e (m ∷ ms) (q ∷ qs) = both (fire ts m e q) (fireAll ts e ms qs)
 
+-- Running together is the synchronous product. "An event runs if it is on some machine and each machine that it is on stands in its pre-place;
+-- these go to its post-place and the others stay. An event on no machine never runs."
 unfoldable pub productStep : TransitionSystem → Decomposition → List ℕ → ℕ → Option (List ℕ)
 productStep ts ms qs e = cond (effective ts ms e) (fireAll ts e ms qs) none
 
@@ -82,12 +85,12 @@ unfoldable pub productRuns : TransitionSystem → Decomposition → List ℕ →
 productRuns ts ms = runs (productStep ts ms) (places ms (ts .initial))
 
 -- 8: the lowest state listed twice in a machine
-unfoldable pub duplicated : TransitionSystem → Machine → Option ℕ
-duplicated ts m = lowest (λ s. ltb 1 (count (eqb s) (flatten (m .places)))) (ts .states)
+unfoldable pub duplicateState : TransitionSystem → Machine → Option ℕ
+duplicateState ts m = lowest (λ s. ltb 1 (count (eqb s) (flatten (m .places)))) (ts .states)
 
 -- 9: the lowest state in no place of a machine
-unfoldable pub uncovered : TransitionSystem → Machine → Option ℕ
-uncovered ts m = lowest (λ s. not (elem s (flatten (m .places)))) (ts .states)
+unfoldable pub uncoveredState : TransitionSystem → Machine → Option ℕ
+uncoveredState ts m = lowest (λ s. not (elem s (flatten (m .places)))) (ts .states)
 
 -- the transitions of an event
 unfoldable pub transitionsOf : TransitionSystem → ℕ → List Transition
@@ -107,18 +110,19 @@ unfoldable pub uniform : TransitionSystem → ℕ → Place → Bool
 uniform ts e r = allOrNone (enters r) (transitionsOf ts e) && allOrNone (exits r) (transitionsOf ts e)
 
 -- 10: the lowest event for which a place of the machine is no region
-unfoldable pub nonuniform : TransitionSystem → Machine → Option ℕ
-nonuniform ts m = lowest (λ e. not (every (uniform ts e) (m .places))) (ts .events)
+unfoldable pub nonuniformEvent : TransitionSystem → Machine → Option ℕ
+nonuniformEvent ts m = lowest (λ e. not (every (uniform ts e) (m .places))) (ts .events)
 
 -- 11: the lowest event on no machine
-unfoldable pub ineffective : TransitionSystem → Decomposition → Option ℕ
-ineffective ts ms = lowest (λ e. not (effective ts ms e)) (ts .events)
+unfoldable pub ineffectiveEvent : TransitionSystem → Decomposition → Option ℕ
+ineffectiveEvent ts ms = lowest (λ e. not (effective ts ms e)) (ts .events)
 
 -- s is in the pre-place, where there is one
 unfoldable pub inPre : Machine → ℕ → Option Move → Bool
 inPre m s none = true
 inPre m s (some v) = eqb (placeOf m s) (v .pre)
 
+-- the machine does not block e in the place with s
 unfoldable pub ready : TransitionSystem → ℕ → ℕ → Machine → Bool
 ready ts e s m = inPre m s (move ts m e)
 
@@ -130,23 +134,24 @@ common ts ms e s = every (ready ts e s) ms
 unfoldable pub excited : TransitionSystem → ℕ → ℕ → Bool
 excited ts e s = exists (leads s e) (ts .transitions)
 
--- 12: the lowest event whose closure fails; "the lowest state common to the pre-places and outside the excitation set"
-unfoldable pub excess : TransitionSystem → Decomposition → ℕ → Option ℕ
-excess ts ms e = lowest (λ s. common ts ms e s && not (excited ts e s)) (ts .states)
+-- 12: "the lowest state common to the pre-places and outside the excitation set"
+unfoldable pub openState : TransitionSystem → Decomposition → ℕ → Option ℕ
+openState ts ms e = lowest (λ s. common ts ms e s && not (excited ts e s)) (ts .states)
 
+-- 12: the lowest event whose closure fails
 unfoldable pub openEvent : TransitionSystem → Decomposition → Option ℕ
-openEvent ts ms = lowest (λ e. isSome (excess ts ms e)) (ts .events)
+openEvent ts ms = lowest (λ e. isSome (openState ts ms e)) (ts .events)
 
 unfoldable pub closureRefusal : TransitionSystem → Decomposition → Option ℕ → Option Refusal
 closureRefusal ts ms none = none
-closureRefusal ts ms (some e) = Option·map (λ s. refuse 12 e s) (excess ts ms e)
+closureRefusal ts ms (some e) = Option·map (λ s. refuse 12 e s) (openState ts ms e)
 
 -- 8, 9, 10 for machine k; "for each machine 8, 9, 10"
 unfoldable pub machineRefusal : TransitionSystem → ℕ → Machine → Option Refusal
 machineRefusal ts k m =
     orElse
-    (Option·map (λ s. refuse 8 k s) (duplicated ts m))
-    (orElse (Option·map (λ s. refuse 9 k s) (uncovered ts m)) (Option·map (λ e. refuse 10 k e) (nonuniform ts m)))
+    (Option·map (λ s. refuse 8 k s) (duplicateState ts m))
+    (orElse (Option·map (λ s. refuse 9 k s) (uncoveredState ts m)) (Option·map (λ e. refuse 10 k e) (nonuniformEvent ts m)))
 
 unfoldable pub machinesRefusal : TransitionSystem → ℕ → Decomposition → Option Refusal
 machinesRefusal ts k [] = none
@@ -154,7 +159,7 @@ machinesRefusal ts k (m ∷ ms) = orElse (machineRefusal ts k m) (machinesRefusa
 
 -- "then 11 over all events; then 12"
 unfoldable pub coverRefusal : TransitionSystem → Decomposition → Option Refusal
-coverRefusal ts ms = orElse (Option·map (λ e. refuse 11 e 0) (ineffective ts ms)) (closureRefusal ts ms (openEvent ts ms))
+coverRefusal ts ms = orElse (Option·map (λ e. refuse 11 e 0) (ineffectiveEvent ts ms)) (closureRefusal ts ms (openEvent ts ms))
 
 -- Thinning. Marks, one for each machine: which are selected
 unfoldable pub select : List Bool → Decomposition → Decomposition
@@ -176,5 +181,5 @@ thinBelow ts ms zero keep = keep
 thinBelow ts ms (suc k) keep = thinBelow ts ms k (tryDrop ts ms k keep)
 
 -- the marks of the machines that are kept
-unfoldable pub irredundant : TransitionSystem → Decomposition → List Bool
-irredundant ts ms = thinBelow ts ms (length ms) (replicate (length ms) true)
+unfoldable pub keptMarks : TransitionSystem → Decomposition → List Bool
+keptMarks ts ms = thinBelow ts ms (length ms) (replicate (length ms) true)

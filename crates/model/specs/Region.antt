@@ -16,8 +16,10 @@ pub data Walk (ts : TransitionSystem) : ℕ → List ℕ → ℕ → Type 0 wher
   stay : {s : ℕ} → Walk ts s [] s
   goes : {es : List ℕ} {u : ℕ} (t : Transition) → List·Memᴰ t (ts .transitions) → Walk ts (t .target) es u → Walk ts (t .source) (t .event ∷ es) u
 
--- 000, Definition 1: the properties that every transition system is supposed to have
+-- 000, Definition 1: T is within S × E × S and s0 in S, and the four properties that every transition system is supposed to have
 pub record IsTransitionSystem (ts : TransitionSystem) : Type 0 where
+  pub initial : ts .initial < ts .states
+  pub within : (t : Transition) → List·Memᴰ t (ts .transitions) → (t .source < ts .states) × (t .event < ts .events) × (t .target < ts .states)
   pub no-self-loop : (t : Transition) → List·Memᴰ t (ts .transitions) → ¬ (t .source ≡ t .target)
   pub occurs : (e : ℕ) → e < ts .events → (t : Transition) × List·Memᴰ t (ts .transitions) × (t .event ≡ e)
   pub reachable : (s : ℕ) → s < ts .states → (es : List ℕ) × Walk ts (ts .initial) es s
@@ -132,3 +134,9 @@ pub data ProductWalk (ts : TransitionSystem) (ms : Decomposition) : List ℕ →
 pub record Stands (ms : Decomposition) (qs : List ℕ) (s : ℕ) : Type 0 where
   pub one-each : length qs ≡ length ms
   pub each : (k : ℕ) (m : Machine) (q : ℕ) → At ms k m → At qs k q → InPlace m q s
+
+-- the machines run the list together from their initial places, to the places qs
+pub record MachinesRun (ts : TransitionSystem) (ms : Decomposition) (es qs : List ℕ) : Type 0 where
+  pub start : List ℕ
+  pub stands : Stands ms start (ts .initial)
+  pub walk : ProductWalk ts ms start es qs

@@ -1,39 +1,39 @@
 -- What each service answers and what it leaves in the lent buffer, for every text and every call. Document 01, "Services".
-use Prim.Native.Nat.{ℕ, zero, suc, _-_}
-use mathlib.Core.Path.{_≡_}
-use mathlib.Core.Bool.{Bool, true, false, not, cond}
-use mathlib.Core.List.{List, [], _∷_, _++_, flatMap}
+use Prim.Native.Nat.{ℕ, suc, _-_}
+use mathlib.Core.Bool.{Bool, not, cond}
+use mathlib.Core.List.{List, [], _∷_, _++_}
 use mathlib.Core.Option.{Option, none, some}
 use lib.Dec.{leb, ltb}
 use lib.ListN.{length, getD, drop, replicate}
 use Rattle.model.specs.Lists.{index, count, isSome}
-use Rattle.model.specs.Refusal.{Refusal, refuse, Checked, refused, passed, need, clear, refusalOf, _>>=_, _>>_}
+use Rattle.model.specs.Refusal.{Refusal, refuse, Checked, refused, passed, need, unless, refusalOf, _>>=_, _>>_}
 use Rattle.model.specs.TransitionSystem.{Transition, TransitionSystem, declared, systemRefusal}
-use Rattle.model.specs.Machine.{Machine, Decomposition, Move, placeOf, places, move, fire, productStep, machinesRefusal, coverRefusal, irredundant}
-use Rattle.model.specs.Bytes.{bytes, digits, Name}
+use Rattle.model.specs.Machine.{Decomposition, places, fire, productStep, machinesRefusal, coverRefusal, keptMarks}
+use Rattle.model.specs.Bytes.{bytes, numeral}
 use Rattle.model.specs.Text.{Input, system, read, nameAt}
+use Rattle.model.specs.Sheet.{sheet}
 
 -- the text checked as far as 7, 10 and 12
 unfoldable pub asFarAs7 : List ℕ → Checked Input
 asFarAs7 s = do
   v ← read s
-  clear (systemRefusal (system v))
+  unless (systemRefusal (system v))
   passed v
 
 unfoldable pub asFarAs10 : List ℕ → Checked Input
 asFarAs10 s = do
   v ← asFarAs7 s
-  clear (machinesRefusal (system v) 0 (v .machines))
+  unless (machinesRefusal (system v) 0 (v .machines))
   passed v
 
 unfoldable pub asFarAs12 : List ℕ → Checked Input
 asFarAs12 s = do
   v ← asFarAs10 s
-  clear (coverRefusal (system v) (v .machines))
+  unless (coverRefusal (system v) (v .machines))
   passed v
 
 -- A call that lends a list: what it answers (how many entries were written, or the refusal), and what the list then holds.
--- "13: lent output too short; size needed, 0." "A refusal changes no byte of any lent buffer. Success writes the first bytes of the output and no others."
+-- A refusal "changes no byte of any lent buffer. Success writes the first bytes of the output and no others." 13 has the size needed.
 pub record Lent (A : Type 0) : Type 0 where
   pub answer : Checked ℕ
   pub left : List A
@@ -48,51 +48,6 @@ lend (passed xs) out =
 
 -- ---- Check and sheet
 
--- "for each event on it, by rising event number, name, pre-place, post-place"
-pub record EventMove : Type 0 where
-  pub event : ℕ
-  pub pre : ℕ
-  pub post : ℕ
-
-unfoldable pub addMove : ℕ → Option Move → List EventMove → List EventMove
-addMove e none l = l
-addMove e (some v) l = l ++ (record { event = e; pre = v .pre; post = v .post } ∷ [])
-
--- the moves of the events below n
-unfoldable pub movesBelow : TransitionSystem → Machine → ℕ → List EventMove
-movesBelow ts m zero = []
-movesBelow ts m (suc n) = addMove n (move ts m n) (movesBelow ts m n)
-
--- "machine number, count of places, place with state 0, then" the moves
-pub record SheetLine : Type 0 where
-  pub number : ℕ
-  pub places : ℕ
-  pub start : ℕ
-  pub moves : List EventMove
-
-unfoldable pub sheetLine : TransitionSystem → ℕ → Machine → SheetLine
-sheetLine ts k m = record { number = k; places = length (m .places); start = placeOf m (ts .initial); moves = movesBelow ts m (ts .events) }
-
-unfoldable pub sheetLines : TransitionSystem → ℕ → Decomposition → List SheetLine
-sheetLines ts k [] = []
-sheetLines ts k (m ∷ ms) = sheetLine ts k m ∷ sheetLines ts (suc k) ms
-
-unfoldable pub writtenMove : List Name → EventMove → List ℕ
-writtenMove names x =
-    bytes " (move " ++ (getD names (x .event) [] ++ (bytes " " ++ (digits (x .pre) ++ (bytes " " ++ (digits (x .post) ++ bytes ")")))))
-
-unfoldable pub writtenLine : List Name → SheetLine → List ℕ
-writtenLine names l =
-    bytes "(machine "
-    ++ (digits (l .number)
-    ++ (bytes " (places "
-    ++ (digits (l .places) ++ (bytes ") (start " ++ (digits (l .start) ++ (bytes ")" ++ (flatMap (writtenMove names) (l .moves) ++ bytes ")\n")))))))
-
--- the bytes of the sheet: "Line 1 counts machines", then a line for each
-unfoldable pub sheet : Input → List ℕ
-sheet v =
-    bytes "(accepted " ++ (digits (length (v .machines)) ++ (bytes ")\n" ++ flatMap (writtenLine (v .names)) (sheetLines (system v) 0 (v .machines))))
-
 unfoldable pub check : List ℕ → List ℕ → Lent ℕ
 check s out =
     lend
@@ -100,6 +55,18 @@ check s out =
       v ← asFarAs12 s
       passed (sheet v))
     out
+
+-- "A refusal prints as number and two details … Each sheet line, and the refusal line, ends in byte 10."
+unfoldable pub writtenRefusal : Refusal → List ℕ
+writtenRefusal r = bytes "(refused " ++ (numeral (r .number) ++ (bytes " " ++ (numeral (r .detail) ++ (bytes " " ++ (numeral (r .second) ++ bytes ")\n")))))
+
+-- what the program writes on this text
+unfoldable pub writtenAnswer : Checked Input → List ℕ
+writtenAnswer (refused r) = writtenRefusal r
+writtenAnswer (passed v) = sheet v
+
+unfoldable pub printed : List ℕ → List ℕ
+printed s = writtenAnswer (asFarAs12 s)
 
 -- ---- Steps: "its first entries are filled in line order, the others keep their contents, and 13 counts entries. The text is checked as far as 7."
 
@@ -198,5 +165,5 @@ pub record Kept : Type 0 where
 unfoldable pub thin : List ℕ → Checked Kept
 thin s = do
   v ← asFarAs12 s
-  let marks = irredundant (system v) (v .machines)
+  let marks = keptMarks (system v) (v .machines)
   passed (record { marks = marks; size = count (λ b. b) marks })

@@ -1,18 +1,18 @@
 -- The table "Where a call says no", rows 1 to 12, as propositions: what each row's condition is, with its details, and the fixed order.
-use Prim.Native.Nat.{ℕ, zero, suc, _≤_, _<_}
+use Prim.Native.Nat.{ℕ, _≤_, _<_}
 use mathlib.Core.Path.{_≡_}
 use mathlib.Core.Logic.{_⊎_}
-use mathlib.Core.Bool.{Bool, true, false, cond}
+use mathlib.Core.Bool.{cond}
 use mathlib.Core.List.{List, [], _∷_, _++_, flatten, List·Memᴰ}
 use lib.Dec.{T, leb}
 use lib.ListN.{length}
 use Rattle.model.specs.Lists.{At, count, elem}
 use Rattle.model.specs.Refusal.{Refusal, refuse}
 use Rattle.model.specs.TransitionSystem.{Transition, TransitionSystem, transitionLine}
-use Rattle.model.specs.Machine.{Place, Machine}
+use Rattle.model.specs.Machine.{Place, Machine, Decomposition}
 use Rattle.model.specs.Region.{Walk, statesOf, RegionFor, PrePlace, InES}
 use Rattle.model.specs.Bytes.{Name}
-use Rattle.model.specs.Form.{Line, states, events, step, machine, written, Formed, Follows, isMachine, isStep}
+use Rattle.model.specs.Form.{Line, states, events, step, machine, written, Formed, Follows, isMachineLine, isStepLine}
 use Rattle.model.specs.Text.{Input, system, stateCount, eventNames, nextLine, Reads}
 
 -- an element stands in the list twice
@@ -32,8 +32,8 @@ LineNext ls rest = (l : Line) × (after : List ℕ) × Follows ls l × Formed l 
 abbrev pub OverLimit : List Line → Line → Type 0
 OverLimit ls (states n) = (n < 1) ⊎ (256 < n)
 OverLimit ls (events es) = 64 < length es
-OverLimit ls (step a e b) = 1024 ≤ count isStep ls
-OverLimit ls (machine ps) = (16 ≤ count isMachine ls) ⊎ (64 < length ps)
+OverLimit ls (step a e b) = 1024 ≤ count isStepLine ls
+OverLimit ls (machine ps) = (16 ≤ count isMachineLine ls) ⊎ (64 < length ps)
 
 -- "state not below n, event undeclared, or event declared twice"
 abbrev pub Undeclared : List Line → Line → Type 0
@@ -44,12 +44,19 @@ Undeclared ls (machine ps) = (p : Place) × List·Memᴰ p ps × (x : ℕ) × Li
 
 -- rows 1 to 3, at a line whose predecessors all have their form
 pub data TextOffence (s : List ℕ) : Refusal → Type 0 where
+  -- line 0, so that it comes before all else
   too-long : 32768 < length s → TextOffence s (refuse 2 0 0)
   malformed : (ls : List Line) (rest : List ℕ) → Begins s ls rest → ¬ (rest ≡ []) → ¬ LineNext ls rest → TextOffence s (refuse 1 (nextLine ls) 0)
   missing-line : (ls : List Line) → Begins s ls [] → length ls < 2 → TextOffence s (refuse 1 (nextLine ls) 0)
   over-limit : (ls : List Line) (l : Line) (rest : List ℕ) → Begins s (ls ++ (l ∷ [])) rest → OverLimit ls l → TextOffence s (refuse 2 (nextLine ls) 0)
-  no-machine : (ls : List Line) → Begins s ls [] → 2 ≤ length ls → count isMachine ls ≡ 0 → TextOffence s (refuse 2 (nextLine ls) 0)
+  no-machine : (ls : List Line) → Begins s ls [] → 2 ≤ length ls → count isMachineLine ls ≡ 0 → TextOffence s (refuse 2 (nextLine ls) 0)
   undeclared : (ls : List Line) (l : Line) (rest : List ℕ) → Begins s (ls ++ (l ∷ [])) rest → Undeclared ls l → TextOffence s (refuse 3 (nextLine ls) 0)
+
+-- rows 11 and 12, of a transition system and machines
+pub data Uncovered (ts : TransitionSystem) (ms : Decomposition) : Refusal → Type 0 where
+  on-no-machine : (e : ℕ) → e < ts .events → ((r : Place) → ¬ PrePlace ts ms e r) → Uncovered ts ms (refuse 11 e 0)
+  not-closed : (e s : ℕ) → e < ts .events → s < ts .states → ((r : Place) → PrePlace ts ms e r → T (elem s r)) → ¬ InES ts e s
+      → Uncovered ts ms (refuse 12 e s)
 
 -- rows 4 to 12, of what was read
 pub data Offence (v : Input) : Refusal → Type 0 where
@@ -63,9 +70,7 @@ pub data Offence (v : Input) : Refusal → Type 0 where
       → ((r : Place) → List·Memᴰ r (m .places) → ¬ T (elem s r)) → Offence v (refuse 9 k s)
   no-region : (k : ℕ) (m : Machine) (e : ℕ) (r : Place) → At (v .machines) k m → e < length (v .names) → List·Memᴰ r (m .places)
       → ¬ RegionFor (system v) e (statesOf r) → Offence v (refuse 10 k e)
-  on-no-machine : (e : ℕ) → e < length (v .names) → ((r : Place) → ¬ PrePlace (system v) (v .machines) e r) → Offence v (refuse 11 e 0)
-  not-closed : (e s : ℕ) → e < length (v .names) → s < v .states
-      → ((r : Place) → PrePlace (system v) (v .machines) e r → T (elem s r)) → ¬ InES (system v) e s → Offence v (refuse 12 e s)
+  cover : (r : Refusal) → Uncovered (system v) (v .machines) r → Offence v r
 
 abbrev pub Offends : List ℕ → Refusal → Type 0
 Offends s r = TextOffence s r ⊎ ((v : Input) × Reads s v × Offence v r)

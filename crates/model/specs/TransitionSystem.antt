@@ -1,12 +1,11 @@
 -- Transition systems (document 01: plans), how they run, and refusals 4 to 7. Source document 000, Definition 1; document 01, "Vocabulary".
-use Prim.Native.Nat.{ℕ, zero, suc, _+_, _<_}
-use mathlib.Core.Path.{_≡_}
+use Prim.Native.Nat.{ℕ, zero, suc, _+_}
 use mathlib.Core.Bool.{Bool, not, cond, _&&_}
-use mathlib.Core.List.{List, [], _∷_, _++_, List·Memᴰ}
+use mathlib.Core.List.{List, [], _∷_, _++_}
 use mathlib.Core.Option.{Option, none, some, Option·map, orElse}
 use lib.Dec.{eqb, ltb}
 use lib.ListN.{length}
-use Rattle.model.specs.Lists.{exists, every, first, index, satisfying, elem, lowest}
+use Rattle.model.specs.Lists.{exists, every, first, index, elem, lowest}
 use Rattle.model.specs.Refusal.{Refusal, refuse}
 
 -- document 01: a step; it leads from a state by an event to a state
@@ -26,7 +25,8 @@ pub record TransitionSystem : Type 0 where
 unfoldable pub leads : ℕ → ℕ → Transition → Bool
 leads s e t = eqb (t .source) s && eqb (t .event) e
 
--- "An event runs if a step of it leads from that state (past refusal 5 there is at most one); the plan then stands where that step ends." None: it does not run.
+-- "An event runs if a step of it leads from that state (past refusal 5 there is at most one); the plan then stands where that step ends."
+-- None: it does not run.
 unfoldable pub systemStep : TransitionSystem → ℕ → ℕ → Option ℕ
 systemStep ts s e = Option·map (λ (t : Transition). t .target) (first (leads s e) (ts .transitions))
 
@@ -72,28 +72,31 @@ transitionsRefusal before (t ∷ ts) = orElse (transitionRefusal before t) (tran
 unfoldable pub unusedEvent : TransitionSystem → Option ℕ
 unusedEvent ts = lowest (λ e. not (exists (λ (t : Transition). eqb (t .event) e) (ts .transitions))) (ts .events)
 
--- the set with the target of the first transition that leads out of it, if one does; so grown n times
+-- t leads out of the set
 unfoldable pub leavesSet : List ℕ → Transition → Bool
 leavesSet set t = elem (t .source) set && not (elem (t .target) set)
 
+-- the set with the target of the transition, if there is one
 unfoldable pub withTarget : Option Transition → List ℕ → List ℕ
 withTarget none set = set
 withTarget (some t) set = t .target ∷ set
 
+-- the set grown n times, each time by the target of the first transition that leads out of it
 unfoldable pub grown : List Transition → ℕ → List ℕ → List ℕ
 grown ts zero set = set
 grown ts (suc n) set = grown ts n (withTarget (first (leavesSet set) ts) set)
 
+-- the states that are reached from the initial state
 unfoldable pub reached : TransitionSystem → List ℕ
 reached ts = grown (ts .transitions) (ts .states) (ts .initial ∷ [])
 
--- 7: the lowest state that is not reached from the initial state
-unfoldable pub unreachable : TransitionSystem → Option ℕ
-unreachable ts = lowest (λ s. not (elem s (reached ts))) (ts .states)
+-- 7: the lowest state that is not reached
+unfoldable pub unreachableState : TransitionSystem → Option ℕ
+unreachableState ts = lowest (λ s. not (elem s (reached ts))) (ts .states)
 
 -- 4 to 7 in the paper's order
 unfoldable pub systemRefusal : TransitionSystem → Option Refusal
 systemRefusal ts =
     orElse
     (transitionsRefusal [] (ts .transitions))
-    (orElse (Option·map (λ e. refuse 6 e 0) (unusedEvent ts)) (Option·map (λ s. refuse 7 s 0) (unreachable ts)))
+    (orElse (Option·map (λ e. refuse 6 e 0) (unusedEvent ts)) (Option·map (λ s. refuse 7 s 0) (unreachableState ts)))
