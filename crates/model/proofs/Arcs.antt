@@ -9,7 +9,7 @@ use lib.Dec.{T, eqb}
 use Rattle.model.specs.Lists.{At, count, elem}
 use Rattle.model.specs.TransitionSystem.{Transition, TransitionSystem}
 use Rattle.model.specs.Machine.{Place, Machine, Move, placeIn, placeOf, move}
-use Rattle.model.specs.Region.{statesOf, InPlace, Arc, HasEvent, IsRegion}
+use Rattle.model.specs.Region.{Crosses, statesOf, InPlace, Arc, HasEvent, IsRegion}
 use Rattle.model.proofs.Laws.{not-T, contra}
 use Rattle.model.proofs.Positions.{at-mem, mem-at}
 use Rattle.model.proofs.Bounds.{Within, Listed}
@@ -91,7 +91,7 @@ module _ (p : TransitionSystem) (m : Machine) (g : Good p m) where
         j = in-place (t .target) (b .target t k)
 
     -- the transition that leaves an arc's source crosses
-    arc-crosses : (e q r : ℕ) (a : Arc p m q e r) → ¬ (placeOf m (a .pre .1 .transition .source) ≡ placeOf m (a .pre .1 .transition .target))
+    pub arc-crosses : (e q r : ℕ) (a : Arc p m q e r) → ¬ (placeOf m (a .pre .1 .transition .source) ≡ placeOf m (a .pre .1 .transition .target))
     arc-crosses e q r a h =
         contra (elem (u .target) (a .source)) (a .pre .1 .holds .1)
         (elem-same (m .places) (a .source) (u .source) (u .target) (at-mem (m .places) q (a .source) (a .source-number)) (a .pre .1 .holds .0)
@@ -136,3 +136,33 @@ module _ (p : TransitionSystem) (m : Machine) (g : Good p m) where
 
     pub no-arc : (e : ℕ) → move p m e ≡ none → ¬ HasEvent p m e
     no-arc e q h = Option·none-ne-some _ (sym q ∙ arc-iff e (record { pre = h .0; post = h .1 }) .1 (h .2))
+
+    -- an event is on the machine exactly if a transition of it leads from one place to another
+    pub on-iff : (e : ℕ) → HasEvent p m e ↔ Crosses p m e
+    on-iff e = (to, from)
+      where
+        to : HasEvent p m e → Crosses p m e
+        to h = record {
+          transition = t;
+          listed = k;
+          label = h .2 .pre .1 .label;
+          holds = λ q i j. arc-crosses e (h .0) (h .1) (h .2) (in-place-number q (t .source) (b .source t k) i ∙ sym (in-place-number q (t .target) (b .target t k) j));
+        }
+          where
+            t : Transition
+            t = h .2 .pre .1 .transition
+
+            k : List·Memᴰ t (p .transitions)
+            k = h .2 .pre .1 .listed
+
+        from : Crosses p m e → HasEvent p m e
+        from c = (placeOf m (t .source), placeOf m (t .target), arc-of e t k (c .label) apart)
+          where
+            t : Transition
+            t = c .transition
+
+            k : List·Memᴰ t (p .transitions)
+            k = c .listed
+
+            apart : ¬ (placeOf m (t .source) ≡ placeOf m (t .target))
+            apart h = c .holds (placeOf m (t .source)) (in-place (t .source) (b .source t k)) (subst (λ (q : ℕ). InPlace m q (t .target)) (sym h) (in-place (t .target) (b .target t k)))

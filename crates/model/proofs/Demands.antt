@@ -1,6 +1,6 @@
 -- The demands hold, of every text.
-use Prim.Native.Nat.{ℕ, zero, suc, _≤_}
-use native.Mathlib.Omega.{arith}
+use Prim.Native.Nat.{_+_, ℕ, zero, suc, _≤_}
+use native.Mathlib.Numerals.{add-two}
 use mathlib.Core.Path.{_≡_, refl, ap, sym, _∙_, subst}
 use mathlib.Core.Logic.{_⊎_, inl, inr, _↔_}
 use mathlib.Core.Bool.{Bool}
@@ -9,8 +9,8 @@ use mathlib.Core.Option.{Option, none, some, Option·map, orElse, Option·some-i
 use lib.ListN.{length, getD}
 use Rattle.model.specs.Lists.{At}
 use Rattle.model.specs.Refusal.{Refusal, refuse, Checked, passed, unless, _>>=_, _>>_}
-use Rattle.model.specs.TransitionSystem.{Transition, TransitionSystem, systemRuns, transitionLine, transitionsRefusal, systemRefusal}
-use Rattle.model.specs.Machine.{Machine, Decomposition, duplicateState, uncoveredState, nonuniformEvent, machineRefusal, machinesRefusal, coverRefusal, select, keptMarks}
+use Rattle.model.specs.TransitionSystem.{Transition, TransitionSystem, systemRuns, transitionsRefusal, systemRefusal}
+use Rattle.model.specs.Machine.{Machine, Decomposition, duplicateState, unplacedState, nonuniformEvent, machineRefusal, machinesRefusal, coverRefusal, select, keptMarks}
 use Rattle.model.specs.Region.{IsMachine}
 use Rattle.model.specs.Form.{Line, step, machine}
 use Rattle.model.specs.Text.{Input, system, read, linesOf}
@@ -23,13 +23,15 @@ use Rattle.model.proofs.Places.{Good}
 use Rattle.model.proofs.Simulate.{covers-of}
 use Rattle.model.proofs.Passed.{sound-of, machines-good}
 use Rattle.model.proofs.Thinning.{kept-covers}
+use Rattle.model.proofs.Regions.{all-alike-iff}
 use Rattle.model.proofs.Product.{of-system, derived, machine-places, all-states-region, system-walk, is-transition-system}
+use Rattle.model.proofs.Limits.{within-of, listed-of}
+use Rattle.model.proofs.SheetForms.{sheet-of}
+use Rattle.model.proofs.LineEnds.{lines-counted}
+use Rattle.model.proofs.Whole.{verdict3}
 use Rattle.model.proofs.Faith.{faithful, answered}
 use Rattle.model.proofs.Kept.{cover-iff, kept-good, thinned}
 use Rattle.model.proofs.Differs.{differ}
-use Rattle.model.proofs.SheetForms.{sheet-of}
-use Rattle.model.proofs.Whole.{verdict3}
-use Rattle.model.proofs.Limits.{within-of, listed-of}
 use Rattle.model.proofs.Verdicts.{decides, read-iff, verdict7, verdict10, verdict12, passed-clear, refused-passed, same-refused}
 use Rattle.model.proofs.Lending.{checking, listing, printing}
 use Rattle.model.proofs.Naming.{naming}
@@ -84,16 +86,11 @@ step-line f [] rest k t a = absurd (Option·none-ne-some t a)
 step-line f (u ∷ ts) rest zero t a = ap (λ (x : Transition). some (f x)) (Option·some-injective u t a)
 step-line f (u ∷ ts) rest (suc k) t a = step-line f ts rest k t a
 
-line-of : (v : Input) (k i : ℕ) (t : Transition) → At (v .transitions) k t → suc i ≡ transitionLine k → At (linesOf v) i (step (t .source) (getD (v .names) (t .event) []) (t .target))
+line-of : (v : Input) (k : ℕ) (t : Transition) → At (v .transitions) k t → At (linesOf v) (k + 2) (step (t .source) (getD (v .names) (t .event) []) (t .target))
 unfolding linesOf
-line-of v k zero t a e = absurd (omega arith)
-line-of v k (suc zero) t a e = absurd (omega arith)
-line-of v k (suc (suc i)) t a e =
-    subst (λ (j : ℕ). At (linesOf v) (suc (suc j)) (step (t .source) (getD (v .names) (t .event) []) (t .target))) same
+line-of v k t a =
+    subst (λ (j : ℕ). At (linesOf v) j (step (t .source) (getD (v .names) (t .event) []) (t .target))) (sym (add-two k))
     (step-line (λ (x : Transition). step (x .source) (getD (v .names) (x .event) []) (x .target)) (v .transitions) (map (λ (m : Machine). machine (m .places)) (v .machines)) k t a)
-  where
-    same : k ≡ i
-    same = omega arith
 
 pub demand2 : (s : List ℕ) → Demand2 s
 unfolding systemRuns
@@ -104,13 +101,16 @@ demand2 s =
       as-far-as-7 = decides 7 s (asFarAs7 s) (verdict7 s);
       as-far-as-10 = decides 10 s (asFarAs10 s) (verdict10 s);
       as-far-as-12 = decides 12 s (asFarAs12 s) (verdict12 s);
+      lines = lines-counted s;
       line-of = λ v r. line-of v;
       transition-system = λ v p. let l = left7 s v p in is-transition-system (system v) (l .within) (l .refuses);
       runs = λ v p es u. system-walk (system v) (no-fork v (left7 s v p)) es (v .initial) u;
+      regions = λ v r. all-alike-iff (system v);
       all-states = λ v r. all-states-region (system v) (within-of v (r .1));
       machines = λ v p. let l = left10 s v p in derived (system v) (v .machines) (l .left .within) (l .good) (l .left .listed);
       closure = λ v p e k. let l = left12 s v p in cover-iff (system v) (v .machines) (l .left .left .within) (l .left .good) (l .left .left .listed) .0 (l .refuses) e k;
       shown = λ v p. let l = left12 s v p in sheet-of v (p .reads .1) (l .left .left .within) (l .left .good) (l .left .left .listed);
+      checker = checking s;
     }
 
 pub demand1 : (s : List ℕ) → Demand1 s
@@ -141,7 +141,7 @@ unfolding machinesRefusal machineRefusal orElse
 machines-8 p k [] h r e = absurd (Option·none-ne-some r e)
 machines-8 p k (m ∷ ms) h r e = go (duplicateState p m) refl (machines-8 p (suc k) ms (λ n i. h n (List·Memᴰ·tail i)) r) (rw (w .0, w .1) at e)
   where
-    w : (uncoveredState p m ≡ none) × (nonuniformEvent p m ≡ none)
+    w : (unplacedState p m ≡ none) × (nonuniformEvent p m ≡ none)
     w = machine-places p m (h m (List·Memᴰ·head refl))
 
     go : (o : Option ℕ) → duplicateState p m ≡ o → (machinesRefusal p (suc k) ms ≡ some r → r .number ≡ 8)
@@ -195,6 +195,7 @@ pub demand3 : (s : List ℕ) → Demand3 s
 unfolding kept-of
 demand3 s =
     record {
+      checker = checking s;
       accepted = λ v p.
           let l = left12 s v p in
           let e = decides 12 s (asFarAs12 s) (verdict12 s) .passes v .1 p in

@@ -14,7 +14,7 @@ use Rattle.model.specs.Refusal.{Refusal, refuse}
 use Rattle.model.specs.TransitionSystem.{TransitionSystem}
 use Rattle.model.specs.Machine.{Machine, Decomposition, effective, ineffectiveEvent, common, excited, openState, openEvent, closureRefusal, coverRefusal, select, suffices, tryDrop, thinBelow, keptMarks}
 use Rattle.model.specs.Region.{Effective, ExcitationClosed}
-use Rattle.model.specs.Table.{Uncovered, on-no-machine, not-closed}
+use Rattle.model.specs.Table.{Uncovered}
 use Rattle.model.specs.Demands.{Suffices, Thinned}
 use Rattle.model.proofs.Laws.{not-not, not-T, contra, and-l, and-r, and-i, T-true, T-false, isSome-none, none-isSome, below-suc, Lowest, found, absent, lowest-view}
 use Rattle.model.proofs.Bounds.{Within, Listed}
@@ -22,8 +22,10 @@ use Rattle.model.proofs.Places.{Good}
 use Rattle.model.proofs.Simulate.{covers-of}
 use Rattle.model.proofs.Passed.{covers-none}
 use Rattle.model.proofs.Thinning.{nonEmpty, select-sub, kept-minimal, nonEmpty-length, Tried, dropped, kept-it, tried}
-use Rattle.model.proofs.Regions.{effective-iff, common-iff, excited-iff, closed-iff}
+use Rattle.model.proofs.Regions.{effective-iff, closed-iff}
 use Rattle.model.proofs.Product.{some-of}
+use Rattle.model.proofs.Order.{Decided, issued, none-holds}
+use Rattle.model.proofs.Covering.{uncovered-decided}
 
 -- what a refusal by 11 or 12 says
 pub data CoverRefused (p : TransitionSystem) (ms : Decomposition) (r : Refusal) : Type 0 where
@@ -70,33 +72,26 @@ module _ (p : TransitionSystem) (ms : Decomposition) (b : Within p) (g : (m : Ma
     λ x. covers-none p ms (record { effective = λ e l. effective-iff p ms b g w e .1 (x e l .0); closed = λ e l. closed-iff p ms b g w e .1 (x e l .1) }),
   )
 
-  -- the refusal by 11 or 12 is one that the table states
-  pub cover-uncovered : (r : Refusal) → coverRefusal p ms ≡ some r → Uncovered p ms r
-  cover-uncovered r h = go (cover-refused p ms r h)
-    where
-      go : CoverRefused p ms r → Uncovered p ms r
-      go (by-11 e l n q) = subst (Uncovered p ms) (sym q) (on-no-machine e l (λ u x. contra (effective p ms e) n (effective-iff p ms b g w e .1 (u, x))))
-      go (by-12 a e l s k c n q) =
-          subst (Uncovered p ms) (sym q)
-          (not-closed e s l k (common-iff p ms b g w e s k .0 c) (λ x. contra (excited p e s) n (excited-iff p ms b g w e s .1 x)))
-
   -- 11 and 12 pass exactly where the table states neither
-  pub covered : coverRefusal p ms ≡ none → (r : Refusal) → ¬ Uncovered p ms r
-  covered n r (on-no-machine e l h) = let x = effective-iff p ms b g w e .0 (covers-of p ms n .effective e l) in h (x .0) (x .1)
-  covered n r (not-closed e s l k h x) = x (excited-iff p ms b g w e s .0 (covers-of p ms n .closed e l s k (common-iff p ms b g w e s k .1 h)))
-
-  pub covered-none : ((r : Refusal) → ¬ Uncovered p ms r) → coverRefusal p ms ≡ none
-  covered-none f = go (coverRefusal p ms) refl
+  pub cover-uncovered : (r : Refusal) → coverRefusal p ms ≡ some r → Uncovered p ms r
+  cover-uncovered r h = go (uncovered-decided p ms b g w)
     where
-      go : (o : Option Refusal) → coverRefusal p ms ≡ o → coverRefusal p ms ≡ none
-      go none q = q
-      go (some r) q = absurd (f r (cover-uncovered r q))
+      go : Decided (Uncovered p ms) (coverRefusal p ms) → Uncovered p ms r
+      go (issued q e x f) = subst (Uncovered p ms) (Option·some-injective q r (sym e ∙ h)) x
+      go (none-holds e f) = absurd (Option·none-ne-some r (sym e ∙ h))
+
+  pub covered-iff : (coverRefusal p ms ≡ none) ↔ ((r : Refusal) → ¬ Uncovered p ms r)
+  covered-iff = go (uncovered-decided p ms b g w)
+    where
+      go : Decided (Uncovered p ms) (coverRefusal p ms) → (coverRefusal p ms ≡ none) ↔ ((r : Refusal) → ¬ Uncovered p ms r)
+      go (issued q e x f) = (λ n. absurd (Option·none-ne-some q (sym n ∙ e)), λ h. absurd (h q x))
+      go (none-holds e f) = (λ n. f, λ h. e)
 
   pub suffices-iff : T (suffices p ms) ↔ Suffices p ms
   unfolding suffices
   suffices-iff = (
-    λ t. (nonEmpty-one ms (and-l (nonEmpty ms) (not (isSome (coverRefusal p ms))) t), covered (isSome-none (coverRefusal p ms) (and-r (nonEmpty ms) (not (isSome (coverRefusal p ms))) t))),
-    λ x. and-i (nonEmpty ms) (not (isSome (coverRefusal p ms))) (nonEmpty-length ms (x .0)) (none-isSome (coverRefusal p ms) (covered-none (x .1))),
+    λ t. (nonEmpty-one ms (and-l (nonEmpty ms) (not (isSome (coverRefusal p ms))) t), covered-iff .0 (isSome-none (coverRefusal p ms) (and-r (nonEmpty ms) (not (isSome (coverRefusal p ms))) t))),
+    λ x. and-i (nonEmpty ms) (not (isSome (coverRefusal p ms))) (nonEmpty-length ms (x .0)) (none-isSome (coverRefusal p ms) (covered-iff .1 (x .1))),
   )
 
 -- as many marks as machines

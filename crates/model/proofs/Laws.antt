@@ -1,4 +1,4 @@
--- Laws of the tests and searches of specs/Lists.antt. Assumes nothing.
+-- Laws of the tests and searches of specs/Lists.antt.
 use Prim.Native.Nat.{ℕ, zero, suc, _<_, _≤_, suc-le-suc}
 use native.Mathlib.Nat.{not-suc-le-zero}
 use native.Mathlib.Omega.{arith}

@@ -1,8 +1,11 @@
--- The theorems about the definitions of specs/, the demands last.
+-- The theorems about the definitions of specs/. `Demands` has demand1, demand2 and demand3; `Numerals` has read-back; specs/Examples has starred.
+
+-- general laws: tests, lists, positions, counting
 pub mod Laws
 pub mod ListLaws
 pub mod Positions
 pub mod Counting
+-- the theory: one machine (Bounds to Moves), machines together (Simulate), reaching, what passing leaves, thinning, running
 pub mod Bounds
 pub mod Places
 pub mod Moves
@@ -11,26 +14,32 @@ pub mod Reach
 pub mod Passed
 pub mod Thinning
 pub mod Running
+-- the published notions: regions, the machine's arcs, the synchronous product
 pub mod Regions
 pub mod Arcs
 pub mod Standing
 pub mod Product
-pub mod Sheets
-pub mod Faith
-pub mod Kept
-pub mod Differs
+-- the table: its order, rows 11 and 12, rows 4 to 12, where two rows hold at once
+pub mod Order
+pub mod Covering
+pub mod Limits
+pub mod Rows
+pub mod Precedence
+-- the text: words, lines, the sheet's lines, chains of lines, values, rows 1 to 3
 pub mod Words
 pub mod Numerals
 pub mod Lines
+pub mod Sheets
 pub mod SheetForms
 pub mod Chains
+pub mod LineEnds
 pub mod Values
-pub mod Order
 pub mod Whole
-pub mod Precedence
-pub mod Limits
-pub mod Covering
-pub mod Rows
+-- the parts of demand 3: all machines and Run, the kept machines, a list that tells apart
+pub mod Faith
+pub mod Kept
+pub mod Differs
+-- the services and the demands
 pub mod Verdicts
 pub mod Lending
 pub mod Naming

@@ -21,7 +21,7 @@ use Rattle.model.specs.Table.{Refused, Passes}
 use Rattle.model.specs.Services.{handedBack, nameRefusal, asFarAs7, name, Part}
 use Rattle.model.specs.Demands.{Names}
 use Rattle.model.proofs.Laws.{dec, T-true, T-false, not-below}
-use Rattle.model.proofs.Positions.{at-below}
+use Rattle.model.proofs.Positions.{at-below, at-value}
 use Rattle.model.proofs.Order.{Verdict, turned-down, let-through, one-refusal, not-both}
 use Rattle.model.proofs.Verdicts.{verdict7, one-passed, refused-passed, same-refused}
 
@@ -58,11 +58,6 @@ unfolding write linesOf written flatMap rest later
 rest-after v e w h =
     regroup (written (states (v .states))) (bytes "(events") (spaced (v .names)) (spaced (take e (v .names))) (bytes " ") w (spaced (drop (suc e) (v .names))) (bytes ")\n")
     (later v) (spaced-split (v .names) e w h)
-
-getD-at : (ns : List Name) (e : ℕ) (w : Name) → At ns e w → getD ns e [] ≡ w
-getD-at [] e w h = absurd (Option·none-ne-some w h)
-getD-at (n ∷ ns) zero w h = Option·some-injective n w h
-getD-at (n ∷ ns) (suc e) w h = getD-at ns e w h
 
 -- the call on a value that passed
 named : Input → ℕ → Checked Part
@@ -137,7 +132,7 @@ module _ (s : List ℕ) (e : ℕ) where
           text = p .reads .0 ∙ rest-after v e w a
 
           is-name : part s (nameAt v e) (length (getD (v .names) e [])) ≡ w
-          is-name = rw (getD-at (v .names) e w a, text, drop-append-seam (before v e) (w ++ rest v e), take-append-seam w (rest v e))
+          is-name = rw (at-value (v .names) e w [] a, text, drop-append-seam (before v e) (w ++ rest v e), take-append-seam w (rest v e))
 
           is-before : take (nameAt v e) s ≡ before v e
           is-before = rw (text, take-append-seam (before v e) (w ++ rest v e))

@@ -1,4 +1,4 @@
--- A machine whose places list each state once and are even: all transitions of an event on it lead from one place to one place.
+-- A machine whose places list each state once and are uniform: all transitions of an event on it lead from one place to one place.
 use Prim.Native.Nat.{ℕ, suc, _<_, _≤_}
 use native.Mathlib.Omega.{arith}
 use mathlib.Core.Path.{_≡_, refl, ap, sym, _∙_, subst}
@@ -9,8 +9,8 @@ use mathlib.Core.Option.{none, Option·map, orElse}
 use lib.Dec.{T, eqb, nltb→le}
 use Rattle.model.specs.Lists.{exists, every, index, count, elem}
 use Rattle.model.specs.Refusal.{refuse}
-use Rattle.model.specs.TransitionSystem.{Transition, TransitionSystem}
-use Rattle.model.specs.Machine.{Place, Machine, placeIn, placeOf, transitionsOf, duplicateState, uncoveredState, enters, exits, allOrNone, uniform, nonuniformEvent, machineRefusal}
+use Rattle.model.specs.TransitionSystem.{Transition, TransitionSystem, exits}
+use Rattle.model.specs.Machine.{Place, Machine, placeIn, placeOf, transitionsOf, duplicateState, unplacedState, enters, allOrNone, uniform, nonuniformEvent, machineRefusal}
 use Rattle.model.proofs.Laws.{dec, not-not, and-l, and-r, and-i, or-l, or-r, or-e, contra, eqb-of, cond-true, cond-false, exists-intro, every-elim, satisfying-intro, orElse-none, map-none, lowest-none}
 use Rattle.model.proofs.Counting.{count-append, count-some}
 use Rattle.model.proofs.Bounds.{Within}
@@ -46,13 +46,13 @@ pub record Good (p : TransitionSystem) (m : Machine) : Type 0 where
   pub uniform : (e : ℕ) → e < p .events → (r : Place) → List·Memᴰ r (m .places) → T (uniform p e r)
 
 pub good-of : (p : TransitionSystem) (k : ℕ) (m : Machine) → machineRefusal p k m ≡ none → Good p m
-unfolding machineRefusal duplicateState uncoveredState nonuniformEvent
+unfolding machineRefusal duplicateState unplacedState nonuniformEvent
 good-of p k m n = record { once = once; placed = placed; uniform = ev }
   where
     n8 : Option·map (λ s. refuse 8 k s) (duplicateState p m) ≡ none
     n8 = orElse-none _ _ n .0
 
-    n910 : orElse (Option·map (λ s. refuse 9 k s) (uncoveredState p m)) (Option·map (λ e. refuse 10 k e) (nonuniformEvent p m)) ≡ none
+    n910 : orElse (Option·map (λ s. refuse 9 k s) (unplacedState p m)) (Option·map (λ e. refuse 10 k e) (nonuniformEvent p m)) ≡ none
     n910 = orElse-none _ _ n .1
 
     once : (s : ℕ) → s < p .states → count (eqb s) (flatten (m .places)) ≤ 1

@@ -8,7 +8,7 @@ use mathlib.Core.Option.{Option, none, some, Option·some-injective, Option·non
 use lib.Dec.{T, eqb, ltb, ltb→lt, lt→ltb, eqb→eq, eqb-refl}
 use Rattle.model.specs.Lists.{isSome, elem}
 use Rattle.model.specs.TransitionSystem.{Transition, TransitionSystem, systemStep, runs, andThen, systemRuns, declared, transitionRefusal, transitionsRefusal, systemRefusal}
-use Rattle.model.specs.Machine.{Machine, Decomposition, Move, placeOf, places, move, inAlphabet, effective, moveFrom, fire, both, fireAll, productStep, productRuns, uncoveredState, nonuniformEvent}
+use Rattle.model.specs.Machine.{Machine, Decomposition, Move, placeOf, places, move, inAlphabet, effective, moveFrom, fire, both, fireAll, productStep, productRuns, unplacedState, nonuniformEvent}
 use Rattle.model.specs.Region.{Walk, stay, goes, IsTransitionSystem, IsRegion, InPlace, IsMachine, Arc, HasEvent, Joint, done, joins, waits, Product, ProductWalk, MachinesRun}
 use Rattle.model.specs.Demands.{Derived, OfSystem}
 use Rattle.model.proofs.Laws.{not-T, contra, eqb-of, cond-true, exists-intro, exists-elim, every-elim, every-intro, orElse-none, none-lowest}
@@ -20,7 +20,7 @@ use Rattle.model.proofs.Simulate.{SystemView, fires, stuck, system-view
 use Rattle.model.proofs.Reach.{cond-none, deterministic, takes}
 use Rattle.model.proofs.Passed.{Sound, sound-of}
 use Rattle.model.proofs.Regions.{uniform-region, regions-iff}
-use Rattle.model.proofs.Arcs.{in-place, in-place-number, arc-of, arc-pre, arc-post, arc-iff, no-arc}
+use Rattle.model.proofs.Arcs.{on-iff, in-place, in-place-number, arc-of, arc-pre, arc-post, arc-iff, no-arc}
 use Rattle.model.proofs.Standing.{stands-at, stands-only}
 
 -- ---- one event: each machine takes an arc of it, or has none and stays
@@ -193,8 +193,8 @@ good-machine p m w g =
       regions = λ r k. uniform-region p r (w r k) (λ e l. g .uniform e l r k);
     }
 
-pub machine-places : (p : TransitionSystem) (m : Machine) → IsMachine p m → (uncoveredState p m ≡ none) × (nonuniformEvent p m ≡ none)
-unfolding uncoveredState
+pub machine-places : (p : TransitionSystem) (m : Machine) → IsMachine p m → (unplacedState p m ≡ none) × (nonuniformEvent p m ≡ none)
+unfolding unplacedState
 machine-places p m h = (
   none-lowest (λ s. not (elem s (flatten (m .places)))) (p .states) (λ s l. not-T (not (elem s (flatten (m .places)))) (λ x. contra (elem s (flatten (m .places))) x (covered s l))),
   regions-iff p m (λ r k. record { within = h .regions r k .within; nonempty = h .regions r k .nonempty }) .1 (h .regions),
@@ -209,6 +209,7 @@ pub derived : (p : TransitionSystem) (ms : Decomposition) → Within p → ((m :
 derived p ms b g w =
     record {
       machine = λ m i. good-machine p m (w m i) (g m i);
+      on = λ m i. on-iff p m (g m i) b (w m i);
       one-way = λ m i e q r a t k he. (
         subst (λ (z : ℕ). InPlace m z (t .source)) (arc-pre p m (g m i) b (w m i) e q r a t k he) (in-place p m (g m i) (t .source) (b .source t k)),
         subst (λ (z : ℕ). InPlace m z (t .target)) (arc-post p m (g m i) b (w m i) e q r a t k he) (in-place p m (g m i) (t .target) (b .target t k)),

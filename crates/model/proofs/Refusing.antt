@@ -1,14 +1,14 @@
 -- The refusals of Run and Thin.
-use Prim.Native.Nat.{ℕ, zero, suc, _<_}
+use Prim.Native.Nat.{ℕ, _<_}
 use native.Mathlib.Omega.{arith}
 use mathlib.Core.Path.{_≡_, refl, ap, sym, _∙_, subst}
 use mathlib.Core.Logic.{_⊎_, inl, inr, _↔_}
-use mathlib.Core.Bool.{Bool, not, cond}
-use mathlib.Core.List.{List, [], _∷_}
-use mathlib.Core.Option.{Option, none, some, Option·some-injective, Option·none-ne-some}
+use mathlib.Core.Bool.{Bool, not}
+use mathlib.Core.List.{List}
+use mathlib.Core.Option.{Option, none, some}
 use lib.Dec.{T, ltb, ltb→lt, nltb→le, leb, leb→le, nleb→lt}
 use lib.ListN.{length}
-use Rattle.model.specs.Lists.{At, every, index, count}
+use Rattle.model.specs.Lists.{At, index, count}
 use Rattle.model.specs.Refusal.{Refusal, refuse, Checked, refused, passed, need, _>>=_, _>>_}
 use Rattle.model.specs.TransitionSystem.{declared}
 use Rattle.model.specs.Machine.{places, keptMarks}
@@ -16,38 +16,10 @@ use Rattle.model.specs.Text.{Input, system}
 use Rattle.model.specs.Table.{Refused, Passes}
 use Rattle.model.specs.Services.{asFarAs12, Ran, runFrom, blocked, refusedBy, outcomeOf, ranAnswer, run, Kept, thin}
 use Rattle.model.specs.Demands.{UnknownAt, RunRefuses}
-use Rattle.model.proofs.Laws.{dec, T-true, T-false, and-l, and-r, not-and}
+use Rattle.model.proofs.Laws.{not-every-elim, exists-intro, every-elim, dec, T-true, T-false}
+use Rattle.model.proofs.Positions.{index-at, index-first, at-mem}
 use Rattle.model.proofs.Order.{Verdict, turned-down, let-through, one-refusal, not-both}
 use Rattle.model.proofs.Verdicts.{verdict12, one-passed, refused-passed, same-refused}
-
--- the first element that fails a test
-pub record FailsAt (f : ℕ → Bool) (es : List ℕ) (k : ℕ) : Type 0 where
-  pub element : ℕ
-  pub position : At es k element
-  pub fails : T (not (f element))
-  pub lowest : (j e : ℕ) → j < k → At es j e → T (f e)
-
-fails-at : (f : ℕ → Bool) (es : List ℕ) → T (not (every f es)) → FailsAt f es (index (λ e. not (f e)) es)
-unfolding every index
-fails-at f [] n = absurd n
-fails-at f (e ∷ es) n = go (dec (f e)) (fails-at f es)
-  where
-    go : T (f e) ⊎ T (not (f e)) → (T (not (every f es)) → FailsAt f es (index (λ x. not (f x)) es)) → FailsAt f (e ∷ es) (cond (not (f e)) 0 (suc (index (λ x. not (f x)) es)))
-    go (inl t) ih = rw (T-true (f e) t) (record { element = r .element; position = r .position; fails = r .fails; lowest = low })
-      where
-        r : FailsAt f es (index (λ x. not (f x)) es)
-        r = ih (not-and (f e) (every f es) n t)
-
-        low : (j x : ℕ) → j < suc (index (λ y. not (f y)) es) → At (e ∷ es) j x → T (f x)
-        low zero x l a = subst (λ (y : ℕ). T (f y)) (Option·some-injective e x a) t
-        low (suc j) x l a = r .lowest j x (omega arith) a
-    go (inr t) ih = rw (T-false (f e) t) (record { element = e; position = refl; fails = t; lowest = λ j x l a. absurd (omega arith) })
-
-every-at : (f : ℕ → Bool) (es : List ℕ) (k e : ℕ) → T (every f es) → At es k e → T (f e)
-unfolding every
-every-at f [] k e t a = absurd (Option·none-ne-some e a)
-every-at f (x ∷ es) zero e t a = subst (λ (y : ℕ). T (f y)) (Option·some-injective x e a) (and-l (f x) (every f es) t)
-every-at f (x ∷ es) (suc k) e t a = every-at f es k e (and-r (f x) (every f es) t) a
 
 -- ---- the lowest unknown event
 
@@ -57,13 +29,22 @@ position v es = index (λ e. not (ltb e (length (v .names)))) es
 unknown-at : (v : Input) (es : List ℕ) → T (not (declared (system v) es)) → UnknownAt v es (position v es)
 unfolding declared
 unknown-at v es n =
-    let r = fails-at (λ e. ltb e (length (v .names))) es n in
     record {
-      event = r .element;
-      position = r .position;
-      unknown = nltb→le (r .element) (length (v .names)) (r .fails);
-      lowest = λ j e l a. ltb→lt e (length (v .names)) (r .lowest j e l a);
+      event = w .0;
+      position = w .1;
+      unknown = nltb→le (w .0) (length (v .names)) (w .2);
+      lowest = λ j e l a. low j e l a (dec (ltb e (length (v .names))));
     }
+  where
+    strange : ℕ → Bool
+    strange e = not (ltb e (length (v .names)))
+
+    w : (e : ℕ) × At es (index strange es) e × T (strange e)
+    w = let x = not-every-elim (λ e. ltb e (length (v .names))) es n in index-at strange es (exists-intro strange es (x .0) (x .1) (x .2))
+
+    low : (j e : ℕ) → j < index strange es → At es j e → T (ltb e (length (v .names))) ⊎ T (not (ltb e (length (v .names)))) → e < length (v .names)
+    low j e l a (inl t) = ltb→lt e (length (v .names)) t
+    low j e l a (inr t) = absurd (omega (arith, index-first strange es j e a t, l))
 
 one-unknown : (v : Input) (es : List ℕ) (j k : ℕ) → UnknownAt v es j → UnknownAt v es k → j ≡ k
 one-unknown v es j k a b = go (dec (leb k j)) (dec (leb j k))
@@ -76,7 +57,7 @@ one-unknown v es j k a b = go (dec (leb k j)) (dec (leb j k))
 not-unknown : (v : Input) (es : List ℕ) (k : ℕ) → T (declared (system v) es) → ¬ UnknownAt v es k
 unfolding declared
 not-unknown v es k t a =
-    omega (arith, ltb→lt (a .event) (length (v .names)) (every-at (λ e. ltb e (length (v .names))) es k (a .event) t (a .position)), a .unknown)
+    omega (arith, ltb→lt (a .event) (length (v .names)) (every-elim (λ e. ltb e (length (v .names))) es t (a .event) (at-mem es k (a .event) (a .position))), a .unknown)
 
 -- ---- Run
 

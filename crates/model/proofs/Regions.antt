@@ -8,9 +8,9 @@ use mathlib.Core.List.{List, _∷_, List·Memᴰ, List·Memᴰ·head, List·Mem�
 use mathlib.Core.Option.{none}
 use lib.Dec.{T, eqb, eqb→eq}
 use Rattle.model.specs.Lists.{exists, every, count, isSome, elem}
-use Rattle.model.specs.TransitionSystem.{Transition, TransitionSystem, leads}
-use Rattle.model.specs.Machine.{Place, Machine, Decomposition, placeIn, placeOf, move, inAlphabet, effective, transitionsOf, enters, exits, allOrNone, uniform, nonuniformEvent, inPre, ready, common, excited}
-use Rattle.model.specs.Region.{Enter, Exit, RegionFor, IsRegion, statesOf, PrePlace, InES, Effective, ExcitationClosed}
+use Rattle.model.specs.TransitionSystem.{Transition, TransitionSystem, leads, exits}
+use Rattle.model.specs.Machine.{Place, Machine, Decomposition, placeIn, placeOf, move, inAlphabet, effective, transitionsOf, enters, allOrNone, uniform, nonuniformEvent, inPre, ready, common, excited}
+use Rattle.model.specs.Region.{States, SomeTransition, AllAlike, Enter, Exit, RegionFor, IsRegion, statesOf, PrePlace, InES, Effective, ExcitationClosed}
 use Rattle.model.proofs.Laws.{dec, not-not, not-T, and-l, and-r, and-i, or-l, or-r, contra, eqb-of, exists-intro, exists-elim, every-elim, every-intro, satisfying-elim, lowest-none, none-lowest}
 use Rattle.model.proofs.Bounds.{Within, ListedPlace, Listed}
 use Rattle.model.proofs.Places.{Good, uniform-enters, uniform-exits, allOrNone-elim, of-event, same-place, at-head, at-tail, not-in-head, once-tail, elem-flatten, Home, home, same-pre}
@@ -29,6 +29,45 @@ pub event-of : (p : TransitionSystem) (e : ℕ) (t : Transition) → List·Mem�
 unfolding transitionsOf
 event-of p e t k = let w = satisfying-elim (λ (v : Transition). eqb (v .event) e) (p .transitions) t k in (w .0, eqb→eq (t .event) e (w .1))
 
+-- 003's words for a region and those of document 01
+pub all-alike-iff : (p : TransitionSystem) (e : ℕ) (r : States) → RegionFor p e r ↔ AllAlike p e r
+all-alike-iff p e r = (to, from)
+  where
+    seen : (Q : Transition → Type 0) (t : Transition) → List·Memᴰ t (p .transitions) → t .event ≡ e → Q t → SomeTransition p e Q
+    seen Q t k l h = record { transition = t; listed = k; label = l; holds = h }
+
+    to : RegionFor p e r → AllAlike p e r
+    to g = record { enter = λ x t k l. en x t k l (dec (r (t .source))) (dec (r (t .target))); leave = λ x t k l. ex x t k l (dec (r (t .source))) (dec (r (t .target))) }
+      where
+        en : Enter p e r → (t : Transition) → List·Memᴰ t (p .transitions) → t .event ≡ e → T (r (t .source)) ⊎ T (not (r (t .source))) → T (r (t .target)) ⊎ T (not (r (t .target)))
+            → T (not (r (t .source))) × T (r (t .target))
+        en x t k l (inl a) (inl b) = absurd (g .enter x .0 (seen _ t k l (a, b)))
+        en x t k l (inl a) (inr b) = absurd (g .enter x .2 (seen _ t k l (a, b)))
+        en x t k l (inr a) (inl b) = (a, b)
+        en x t k l (inr a) (inr b) = absurd (g .enter x .1 (seen _ t k l (a, b)))
+
+        ex : Exit p e r → (t : Transition) → List·Memᴰ t (p .transitions) → t .event ≡ e → T (r (t .source)) ⊎ T (not (r (t .source))) → T (r (t .target)) ⊎ T (not (r (t .target)))
+            → T (r (t .source)) × T (not (r (t .target)))
+        ex x t k l (inl a) (inl b) = absurd (g .exit x .0 (seen _ t k l (a, b)))
+        ex x t k l (inl a) (inr b) = (a, b)
+        ex x t k l (inr a) (inl b) = absurd (g .exit x .2 (seen _ t k l (a, b)))
+        ex x t k l (inr a) (inr b) = absurd (g .exit x .1 (seen _ t k l (a, b)))
+
+    from : AllAlike p e r → RegionFor p e r
+    from g =
+        record {
+          enter = λ x. (
+            λ u. contra (r (u .transition .source)) (g .enter x (u .transition) (u .listed) (u .label) .0) (u .holds .0),
+            λ u. contra (r (u .transition .target)) (u .holds .1) (g .enter x (u .transition) (u .listed) (u .label) .1),
+            λ u. contra (r (u .transition .target)) (u .holds .1) (g .enter x (u .transition) (u .listed) (u .label) .1),
+          );
+          exit = λ x. (
+            λ u. contra (r (u .transition .target)) (g .leave x (u .transition) (u .listed) (u .label) .1) (u .holds .1),
+            λ u. contra (r (u .transition .source)) (u .holds .0) (g .leave x (u .transition) (u .listed) (u .label) .0),
+            λ u. contra (r (u .transition .source)) (u .holds .0) (g .leave x (u .transition) (u .listed) (u .label) .0),
+          );
+        }
+
 module _ (p : TransitionSystem) (r : Place) (e : ℕ) where
   pub enters-i : (t : Transition) → T (not (elem (t .source) r)) → T (elem (t .target) r) → T (enters r t)
   unfolding enters
@@ -46,7 +85,7 @@ module _ (p : TransitionSystem) (r : Place) (e : ℕ) where
   unfolding exits
   exits-e t x = (and-l (elem (t .source) r) (not (elem (t .target) r)) x, and-r (elem (t .source) r) (not (elem (t .target) r)) x)
 
-  -- an even place: one transition that enters makes every transition of the event enter
+  -- a uniform place: one transition that enters makes every transition of the event enter
   all-enter : T (uniform p e r) → Enter p e (statesOf r) → (u : Transition) → List·Memᴰ u (p .transitions) → u .event ≡ e → T (not (elem (u .source) r)) × T (elem (u .target) r)
   all-enter h t u k q =
       enters-e u
@@ -63,47 +102,17 @@ module _ (p : TransitionSystem) (r : Place) (e : ℕ) where
   unfolding uniform
   region-uniform g =
       and-i (allOrNone (enters r) (transitionsOf p e)) (allOrNone (exits r) (transitionsOf p e))
-      (allOrNone-intro (enters r) (transitionsOf p e) en)
-      (allOrNone-intro (exits r) (transitionsOf p e) ex)
+      (allOrNone-intro (enters r) (transitionsOf p e) (λ t u kt ku x. let w = alike .enter (seen t kt (enters-e t x)) u (event-of p e u ku .0) (event-of p e u ku .1) in enters-i u (w .0) (w .1)))
+      (allOrNone-intro (exits r) (transitionsOf p e) (λ t u kt ku x. let w = alike .leave (seen t kt (exits-e t x)) u (event-of p e u ku .0) (event-of p e u ku .1) in exits-i u (w .0) (w .1)))
     where
-      en : (t u : Transition) → List·Memᴰ t (transitionsOf p e) → List·Memᴰ u (transitionsOf p e) → T (enters r t) → T (enters r u)
-      en t u kt ku x = go (dec (elem (u .source) r)) (dec (elem (u .target) r))
-        where
-          some-t : Enter p e (statesOf r)
-          some-t = record { transition = t; listed = event-of p e t kt .0; label = event-of p e t kt .1; holds = enters-e t x }
+      alike : AllAlike p e (statesOf r)
+      alike = all-alike-iff p e (statesOf r) .0 g
 
-          go : T (elem (u .source) r) ⊎ T (not (elem (u .source) r)) → T (elem (u .target) r) ⊎ T (not (elem (u .target) r)) → T (enters r u)
-          go (inl a) (inl b) = absurd (g .enter some-t .0 (record { transition = u; listed = event-of p e u ku .0; label = event-of p e u ku .1; holds = (a, b) }))
-          go (inl a) (inr b) = absurd (g .enter some-t .2 (record { transition = u; listed = event-of p e u ku .0; label = event-of p e u ku .1; holds = (a, b) }))
-          go (inr a) (inl b) = enters-i u a b
-          go (inr a) (inr b) = absurd (g .enter some-t .1 (record { transition = u; listed = event-of p e u ku .0; label = event-of p e u ku .1; holds = (a, b) }))
+      seen : {Q : Transition → Type 0} (t : Transition) → List·Memᴰ t (transitionsOf p e) → Q t → SomeTransition p e Q
+      seen t k h = record { transition = t; listed = event-of p e t k .0; label = event-of p e t k .1; holds = h }
 
-      ex : (t u : Transition) → List·Memᴰ t (transitionsOf p e) → List·Memᴰ u (transitionsOf p e) → T (exits r t) → T (exits r u)
-      ex t u kt ku x = go (dec (elem (u .source) r)) (dec (elem (u .target) r))
-        where
-          some-t : Exit p e (statesOf r)
-          some-t = record { transition = t; listed = event-of p e t kt .0; label = event-of p e t kt .1; holds = exits-e t x }
-
-          go : T (elem (u .source) r) ⊎ T (not (elem (u .source) r)) → T (elem (u .target) r) ⊎ T (not (elem (u .target) r)) → T (exits r u)
-          go (inl a) (inl b) = absurd (g .exit some-t .0 (record { transition = u; listed = event-of p e u ku .0; label = event-of p e u ku .1; holds = (a, b) }))
-          go (inl a) (inr b) = exits-i u a b
-          go (inr a) (inl b) = absurd (g .exit some-t .2 (record { transition = u; listed = event-of p e u ku .0; label = event-of p e u ku .1; holds = (a, b) }))
-          go (inr a) (inr b) = absurd (g .exit some-t .1 (record { transition = u; listed = event-of p e u ku .0; label = event-of p e u ku .1; holds = (a, b) }))
-
-pub uniform-region-for : (p : TransitionSystem) (r : Place) (e : ℕ) → T (uniform p e r) → RegionFor p e (statesOf r)
-uniform-region-for p r e h =
-    record {
-      enter = λ t. (
-        λ u. contra (elem (u .transition .source) r) (all-enter p r e h t (u .transition) (u .listed) (u .label) .0) (u .holds .0),
-        λ u. contra (elem (u .transition .target) r) (u .holds .1) (all-enter p r e h t (u .transition) (u .listed) (u .label) .1),
-        λ u. contra (elem (u .transition .target) r) (u .holds .1) (all-enter p r e h t (u .transition) (u .listed) (u .label) .1),
-      );
-      exit = λ t. (
-        λ u. contra (elem (u .transition .target) r) (all-exit p r e h t (u .transition) (u .listed) (u .label) .1) (u .holds .1),
-        λ u. contra (elem (u .transition .source) r) (u .holds .0) (all-exit p r e h t (u .transition) (u .listed) (u .label) .0),
-        λ u. contra (elem (u .transition .source) r) (u .holds .0) (all-exit p r e h t (u .transition) (u .listed) (u .label) .0),
-      );
-    }
+  pub uniform-region-for : T (uniform p e r) → RegionFor p e (statesOf r)
+  uniform-region-for h = all-alike-iff p e (statesOf r) .1 (record { enter = all-enter h; leave = all-exit h })
 
 pub uniform-region : (p : TransitionSystem) (r : Place) → ListedPlace p r → ((e : ℕ) → e < p .events → T (uniform p e r)) → IsRegion p (statesOf r)
 uniform-region p r w h = record { within = w .within; nonempty = w .nonempty; each = λ e l. uniform-region-for p r e (h e l) }

@@ -14,8 +14,8 @@ use Rattle.model.proofs.ListLaws.{map-mem}
 use Rattle.model.proofs.Positions.{getD-mem}
 use Rattle.model.proofs.Bounds.{Within, Listed}
 use Rattle.model.proofs.Places.{Good}
-use Rattle.model.proofs.Sheets.{Small, lines-small, lines-length, lines-shown, sheet-fits}
 use Rattle.model.proofs.Words.{past, done, lit-complete, lit-fails, figure-complete, name-complete, ReaderComplete, items-complete}
+use Rattle.model.proofs.Sheets.{Small, lines-small, lines-length, lines-shown, sheet-fits}
 
 -- the bytes of items, each the image of another item
 flat-image : {A B : Type 0} (f : B → List ℕ) (g : A → B) (h : A → List ℕ) → ((x : A) → h x ≡ f (g x)) → (l : List A) → flatMap h l ≡ flatMap f (map g l)

@@ -16,10 +16,10 @@ use Rattle.model.specs.Text.{Input, valueOf, inLimit, isDeclared, nextLi
 use Rattle.model.specs.Table.{Begins, start, next, LineNext, OverLimit, Undeclared, TextOffence, too-long, malformed, missing-line, over-limit, no-machine, undeclared, Offends, rank, NoLater}
 use Rattle.model.proofs.Laws.{dec, T-true, T-false, cond-true, cond-false, order}
 use Rattle.model.proofs.Counting.{count-some, count-none}
+use Rattle.model.proofs.Order.{offence-number, by-line, Verdict, turned-down, let-through}
 use Rattle.model.proofs.Lines.{LineRead, line-complete, line-sound, written-positive}
 use Rattle.model.proofs.Chains.{Each, Proper, each-snoc, each-at, begun, begins, without-last, unique, written-not-empty, Compare, same, shorter, longer, compare}
 use Rattle.model.proofs.Values.{Complete, within-ok, within-not, known-ok, known-not, Fine, complete-reads, limits-complete, value-again}
-use Rattle.model.proofs.Order.{offence-number, by-line, Verdict, turned-down, let-through}
 
 -- ---- the offences of rows 1 to 3, by the lines before them and the bytes after those
 

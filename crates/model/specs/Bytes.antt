@@ -2,9 +2,11 @@
 use Prim.Native.Nat.{ℕ, zero, suc, _+_, _-_, _*_, _/_, _%_, _≤_}
 use Prim.Native.Char.{code}
 use Prim.Native.String.{String}
+use mathlib.Core.Path.{_≡_}
+use mathlib.Core.Logic.{_⊎_}
 use mathlib.Core.Bool.{Bool, true, false, not, cond, _&&_, _||_}
 use mathlib.Core.List.{List, [], _∷_, _++_, List·Memᴰ}
-use lib.Dec.{T, leb, ltb, eqb}
+use lib.Dec.{leb, ltb, eqb}
 use lib.ListN.{length, getD}
 use Prim.Native.String as S
 
@@ -56,11 +58,12 @@ digits n =
     ((48 + n) ∷ [])
     (cond (ltb n 100) ((48 + n / 10) ∷ (48 + n % 10) ∷ []) ((48 + n / 100) ∷ (48 + n / 10 % 10) ∷ (48 + n % 10) ∷ []))
 
--- any number below 10 ^ 20, in base ten; the details of a refusal go past 999
+-- the last k + 1 digits of a number, with no leading zero
 unfoldable pub numeralUpTo : ℕ → ℕ → List ℕ
 numeralUpTo zero n = (48 + n % 10) ∷ []
 numeralUpTo (suc k) n = cond (ltb n 10) ((48 + n) ∷ []) (numeralUpTo k (n / 10) ++ ((48 + n % 10) ∷ []))
 
+-- any number below 10 ^ 20, in base ten; the details of a refusal go past 999
 unfoldable pub numeral : ℕ → List ℕ
 numeral = numeralUpTo 19
 
@@ -71,12 +74,18 @@ Name = List ℕ
 unfoldable pub isName : List ℕ → Bool
 isName w = leb 1 (length w) && (leb (length w) 16 && isLetter (getD w 0 0))
 
--- the same, of any word
+-- the same of any word, by the bytes' numbers
+abbrev pub Letter : ℕ → Type 0
+Letter b = (97 ≤ b) × (b ≤ 122)
+
+abbrev pub Digit : ℕ → Type 0
+Digit b = (48 ≤ b) × (b ≤ 57)
+
 pub record IsName (w : Name) : Type 0 where
   pub least : 1 ≤ length w
   pub most : length w ≤ 16
-  pub letter : T (isLetter (getD w 0 0))
-  pub each : (b : ℕ) → List·Memᴰ b w → T (isNameByte b)
+  pub letter : Letter (getD w 0 0)
+  pub each : (b : ℕ) → List·Memᴰ b w → Letter b ⊎ (Digit b ⊎ (b ≡ 45))
 
 -- two names are one event
 abbrev pub sameName : Name → Name → Bool

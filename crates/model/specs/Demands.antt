@@ -1,28 +1,28 @@
 -- The three demands of document 00, as statements about the very definitions that the services' contracts cite. Each is one claim over every text.
 --
--- They rest on the propositions of Region and Table, on the bytes of Form (`written`), Text (`write`, `Limits`) and Sheet (`writtenLine`), and on the
--- small definitions that these name: At, elem, count and isSome of Lists, bytes, digits, isLetter and isNameByte of Bytes, stateCount, eventNames,
--- nextLine and linesOf of Text, select of Machine. Everything else in specs/ computes, and is held to these here.
-use Prim.Native.Nat.{ℕ, suc, _+_, _≤_, _<_, _^_}
+-- What has to be believed, beside the library: Region and Table; Form's `written`, `Formed`, `Follows`; Text's `write`, `Limits`, `system`; IsName;
+-- and what these name: At, elem and count, `bytes`, `digits`, `refuse`, stateCount and eventNames, isStepLine and isMachineLine, linesOf, select.
+-- Everything else in specs/ computes, and is held to these here.
+use Prim.Native.Nat.{ℕ, suc, _+_, _≤_, _<_, _^_, _/_, _%_}
 use mathlib.Core.Path.{_≡_}
 use mathlib.Core.Logic.{_↔_, _⊎_}
 use mathlib.Core.Bool.{true, false, not}
 use mathlib.Core.List.{List, [], _∷_, _++_, map, flatMap, List·Memᴰ}
 use mathlib.Core.Option.{some}
-use lib.Dec.{T, ltb}
+use lib.Dec.{T, eqb, ltb}
 use lib.ListN.{length, take, drop, getD, set, replicate}
-use Rattle.model.specs.Lists.{At}
+use Rattle.model.specs.Lists.{At, count}
 use Rattle.model.specs.Refusal.{Refusal, refuse, Checked, refused, passed}
-use Rattle.model.specs.TransitionSystem.{Transition, TransitionSystem, systemRuns, transitionLine}
+use Rattle.model.specs.TransitionSystem.{Transition, TransitionSystem, systemRuns}
 use Rattle.model.specs.Machine.{Machine, Decomposition, productStep, productRuns, select}
-use Rattle.model.specs.Region.{Walk, IsTransitionSystem, IsRegion, InPlace, IsMachine, Arc, HasEvent, Effective, ExcitationClosed, Product, Stands, MachinesRun}
-use Rattle.model.specs.Bytes.{bytes, digits, numeral, decimal, Name, IsName, isDigit, isNameByte}
-use Rattle.model.specs.Reading.{got, figure, part}
-use Rattle.model.specs.Form.{written, states, step}
+use Rattle.model.specs.Region.{Walk, IsTransitionSystem, States, RegionFor, AllAlike, IsRegion, Crosses, InPlace, IsMachine, Arc, HasEvent, Effective, ExcitationClosed, Product, Stands, MachinesRun}
+use Rattle.model.specs.Bytes.{bytes, digits, numeral, Name, IsName, isDigit, isNameByte}
+use Rattle.model.specs.Reading.{got, figure}
+use Rattle.model.specs.Form.{Line, written, states, step}
 use Rattle.model.specs.Text.{Input, system, read, linesOf, Reads}
 use Rattle.model.specs.Sheet.{EventMove, SheetLine, writtenLine, sheet, NamedMove, NamedLine, sheetForm}
-use Rattle.model.specs.Table.{Uncovered, Refused, Passes}
-use Rattle.model.specs.Services.{asFarAs7, asFarAs10, asFarAs12, Lent, check, writtenRefusal, printed, steps, Part, name, handedBack, nameRefusal, whole, blocked, refusedBy, RunAnswer, run, Kept, thin}
+use Rattle.model.specs.Table.{Begins, Uncovered, Refused, Passes}
+use Rattle.model.specs.Services.{asFarAs7, asFarAs10, asFarAs12, Lent, check, printed, steps, Part, name, handedBack, nameRefusal, whole, blocked, refusedBy, RunAnswer, run, Kept, thin}
 use Rattle.model.specs.Reading as R
 
 -- ---- Demand 1: "Refused, each by its number and with every lent buffer untouched …" "Every other input is accepted."
@@ -39,7 +39,9 @@ pub record Lends {A : Type 0} (n : ℕ) (s : List ℕ) (wanted : Input → List 
 
 -- the program prints the sheet or the refusal
 pub record Prints (s : List ℕ) : Type 0 where
-  pub refuses : (r : Refusal) → Refused 12 s r → printed s ≡ writtenRefusal r
+  -- "A refusal prints as number and two details …" "Each sheet line, and the refusal line, ends in byte 10."
+  pub refuses : (r : Refusal) → Refused 12 s r
+      → printed s ≡ bytes "(refused " ++ (numeral (r .number) ++ (bytes " " ++ (numeral (r .detail) ++ (bytes " " ++ (numeral (r .second) ++ bytes ")\n")))))
   pub accepts : (v : Input) → Passes 12 s v → printed s ≡ sheet v
   -- "The program lends 32,768 bytes, which always suffices."
   pub suffices : (out : List ℕ) → length out ≡ 32768 → (r : Refusal) → (check s out .answer ≡ refused r) ↔ Refused 12 s r
@@ -49,7 +51,7 @@ pub record Names (s : List ℕ) (e : ℕ) : Type 0 where
       ↔ (Refused 7 s r ⊎ ((v : Input) × Passes 7 s v × (length (v .names) ≤ e) × (r ≡ refuse 14 0 0)))
   -- the part is the name; before it stand line 1 and the events line as far as the names before e
   pub accepts : (v : Input) (w : Name) → Passes 7 s v → At (v .names) e w
-      → (p : Part) × (name s e ≡ passed p) × (part s (p .from) (p .size) ≡ w)
+      → (p : Part) × (name s e ≡ passed p) × (take (p .size) (drop (p .from) s) ≡ w)
       × (take (p .from) s ≡ written (states (v .states)) ++ (bytes "(events" ++ (flatMap (λ x. bytes " " ++ x) (take e (v .names)) ++ bytes " ")))
   -- what the call hands back, and its companion
   pub hands : (p : Part) → name s e ≡ passed p → handedBack (name s e) ≡ p
@@ -85,6 +87,7 @@ pub record Decides (n : ℕ) (s : List ℕ) (c : Checked Input) : Type 0 where
 -- "Regions … and the machines' running together are those of the published region theory", for machines that pass 8 to 10
 pub record Derived (ts : TransitionSystem) (ms : Decomposition) : Type 0 where
   pub machine : (m : Machine) → List·Memᴰ m ms → IsMachine ts m
+  pub on : (m : Machine) → List·Memᴰ m ms → (e : ℕ) → HasEvent ts m e ↔ Crosses ts m e
   -- "all its steps then lead from one pre-place to one post-place. If it isn't on the machine, no step of it crosses."
   pub one-way : (m : Machine) → List·Memᴰ m ms → (e q r : ℕ) → Arc ts m q e r
       → (t : Transition) → List·Memᴰ t (ts .transitions) → t .event ≡ e → InPlace m q (t .source) × InPlace m r (t .target)
@@ -126,12 +129,15 @@ pub record Demand2 (s : List ℕ) : Type 0 where
   pub as-far-as-7 : Decides 7 s (asFarAs7 s)
   pub as-far-as-10 : Decides 10 s (asFarAs10 s)
   pub as-far-as-12 : Decides 12 s (asFarAs12 s)
-  -- lines count from 1: the line that 4 and 5 name is the transition's own
-  pub line-of : (v : Input) → Reads s v → (k i : ℕ) (t : Transition) → At (v .transitions) k t → suc i ≡ transitionLine k
-      → At (linesOf v) i (step (t .source) (getD (v .names) (t .event) []) (t .target))
+  -- "every line ended by byte 10", "Lines count from 1": transition k stands on line k + 3
+  pub lines : (ls : List Line) (rest : List ℕ) → Begins s ls rest → count (eqb 10) s ≡ length ls + count (eqb 10) rest
+  pub line-of : (v : Input) → Reads s v → (k : ℕ) (t : Transition) → At (v .transitions) k t
+      → At (linesOf v) (k + 2) (step (t .source) (getD (v .names) (t .event) []) (t .target))
   -- 000, Definition 1
   pub transition-system : (v : Input) → Passes 7 s v → IsTransitionSystem (system v)
   pub runs : (v : Input) → Passes 7 s v → (es : List ℕ) (u : ℕ) → (systemRuns (system v) es ≡ some u) ↔ Walk (system v) (v .initial) es u
+  -- 003, Definition 8 in the words of document 01
+  pub regions : (v : Input) → Reads s v → (e : ℕ) (r : States) → RegionFor (system v) e r ↔ AllAlike (system v) e r
   -- "The set of all states is a region."
   pub all-states : (v : Input) → Reads s v → IsRegion (system v) (λ u. ltb u (v .states))
   pub machines : (v : Input) → Passes 10 s v → Derived (system v) (v .machines)
@@ -139,14 +145,17 @@ pub record Demand2 (s : List ℕ) : Type 0 where
   pub closure : (v : Input) → Passes 12 s v → (e : ℕ) → e < length (v .names)
       → Effective (system v) (v .machines) e × ExcitationClosed (system v) (v .machines) e
   pub shown : (v : Input) → Passes 12 s v → Sheet v
+  -- the checker answers what these give
+  pub checker : (out : List ℕ) → Lends 12 s sheet out (check s out)
 
--- figures to 999 read back before anything but a digit, names before anything but a byte of a name; a numeral has the value of its number
+-- figures to 999 read back before anything but a digit, names before anything but a byte of a name; numerals and figures are those of base ten
 pub record ReadBack : Type 0 where
   pub figures : (n : ℕ) → n ≤ 999 → (before rest : List ℕ) → T (not (isDigit (getD rest 0 0)))
       → figure (before ++ (digits n ++ rest)) (length before) ≡ got n (length before + length (digits n))
   pub names : (w : Name) → IsName w → (before rest : List ℕ) → T (not (isNameByte (getD rest 0 0)))
       → R.name (before ++ (w ++ rest)) (length before) ≡ got w (length before + length w)
-  pub numerals : (n : ℕ) → n < 10 ^ 20 → (decimal (numeral n) ≡ n) × ((b : ℕ) → List·Memᴰ b (numeral n) → T (isDigit b))
+  pub digit : (n : ℕ) → n < 10 → numeral n ≡ (48 + n) ∷ []
+  pub last-digit : (n : ℕ) → 10 ≤ n → n < 10 ^ 20 → numeral n ≡ numeral (n / 10) ++ ((48 + n % 10) ∷ [])
   pub small : (n : ℕ) → n ≤ 999 → numeral n ≡ digits n
 
 -- ---- Demand 3
@@ -218,6 +227,8 @@ pub record Differ (ts : TransitionSystem) (ms : Decomposition) : Type 0 where
   pub one-only : (SystemRuns ts trace × (¬ ProductRuns ts ms trace)) ⊎ ((¬ SystemRuns ts trace) × ProductRuns ts ms trace)
 
 pub record Demand3 (s : List ℕ) : Type 0 where
+  -- "the checker answers what these give"
+  pub checker : (out : List ℕ) → Lends 12 s sheet out (check s out)
   -- the text passes as far as 12: for every list of the plan's events, all machines, those that Thin keeps, and what Run answers
   pub accepted : (v : Input) → Passes 12 s v
       → (k : Kept) × (thin s ≡ passed k) × Thinned (system v) (v .machines) k

@@ -7,7 +7,7 @@ use lib.Dec.{eqb, ltb}
 use lib.ListN.{length, replicate, set}
 use Rattle.model.specs.Lists.{exists, every, first, index, count, satisfying, isSome, isEmpty, elem, lowest}
 use Rattle.model.specs.Refusal.{Refusal, refuse}
-use Rattle.model.specs.TransitionSystem.{Transition, TransitionSystem, leads, runs}
+use Rattle.model.specs.TransitionSystem.{Transition, TransitionSystem, leads, runs, exits}
 
 -- the states that a place lists
 abbrev pub Place : Type 0
@@ -89,8 +89,8 @@ unfoldable pub duplicateState : TransitionSystem → Machine → Option ℕ
 duplicateState ts m = lowest (λ s. ltb 1 (count (eqb s) (flatten (m .places)))) (ts .states)
 
 -- 9: the lowest state in no place of a machine
-unfoldable pub uncoveredState : TransitionSystem → Machine → Option ℕ
-uncoveredState ts m = lowest (λ s. not (elem s (flatten (m .places)))) (ts .states)
+unfoldable pub unplacedState : TransitionSystem → Machine → Option ℕ
+unplacedState ts m = lowest (λ s. not (elem s (flatten (m .places)))) (ts .states)
 
 -- the transitions of an event
 unfoldable pub transitionsOf : TransitionSystem → ℕ → List Transition
@@ -98,9 +98,6 @@ transitionsOf ts e = satisfying (λ (t : Transition). eqb (t .event) e) (ts .tra
 
 unfoldable pub enters : Place → Transition → Bool
 enters r t = not (elem (t .source) r) && elem (t .target) r
-
-unfoldable pub exits : Place → Transition → Bool
-exits r t = elem (t .source) r && not (elem (t .target) r)
 
 -- "where one step of the event enters the set, all its steps enter it; where one leaves, all leave"
 unfoldable pub allOrNone : (Transition → Bool) → List Transition → Bool
@@ -151,7 +148,7 @@ unfoldable pub machineRefusal : TransitionSystem → ℕ → Machine → Option 
 machineRefusal ts k m =
     orElse
     (Option·map (λ s. refuse 8 k s) (duplicateState ts m))
-    (orElse (Option·map (λ s. refuse 9 k s) (uncoveredState ts m)) (Option·map (λ e. refuse 10 k e) (nonuniformEvent ts m)))
+    (orElse (Option·map (λ s. refuse 9 k s) (unplacedState ts m)) (Option·map (λ e. refuse 10 k e) (nonuniformEvent ts m)))
 
 unfoldable pub machinesRefusal : TransitionSystem → ℕ → Decomposition → Option Refusal
 machinesRefusal ts k [] = none

@@ -63,6 +63,11 @@ pub record IsRegion (ts : TransitionSystem) (r : States) : Type 0 where
   pub nonempty : (s : ℕ) × T (r s)
   pub each : (e : ℕ) → e < ts .events → RegionFor ts e r
 
+-- document 01's words for the same: "where one step of the event enters the set, all its steps enter it; where one leaves, all leave"
+pub record AllAlike (ts : TransitionSystem) (e : ℕ) (r : States) : Type 0 where
+  pub enter : Enter ts e r → (t : Transition) → List·Memᴰ t (ts .transitions) → t .event ≡ e → T (not (r (t .source))) × T (r (t .target))
+  pub leave : Exit ts e r → (t : Transition) → List·Memᴰ t (ts .transitions) → t .event ≡ e → T (r (t .source)) × T (not (r (t .target)))
+
 -- 003, Definition 10
 abbrev pub PreRegion : TransitionSystem → ℕ → States → Type 0
 PreRegion ts e r = IsRegion ts r × Exit ts e r
@@ -112,6 +117,10 @@ pub record Arc (ts : TransitionSystem) (m : Machine) (q e r : ℕ) : Type 0 wher
 -- e is one of the machine's events
 abbrev pub HasEvent : TransitionSystem → Machine → ℕ → Type 0
 HasEvent ts m e = (q : ℕ) × (r : ℕ) × Arc ts m q e r
+
+-- document 01: "An event is on a machine if a step of it leads from one place to another."
+abbrev pub Crosses : TransitionSystem → Machine → ℕ → Type 0
+Crosses ts m e = SomeTransition ts e (λ (t : Transition). (q : ℕ) → InPlace m q (t .source) → ¬ InPlace m q (t .target))
 
 -- 000, Definition 4, for several machines: those that have the event take a transition of it, and the others stay
 pub data Joint (ts : TransitionSystem) (e : ℕ) : Decomposition → List ℕ → List ℕ → Type 0 where

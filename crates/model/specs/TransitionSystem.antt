@@ -72,9 +72,9 @@ transitionsRefusal before (t ∷ ts) = orElse (transitionRefusal before t) (tran
 unfoldable pub unusedEvent : TransitionSystem → Option ℕ
 unusedEvent ts = lowest (λ e. not (exists (λ (t : Transition). eqb (t .event) e) (ts .transitions))) (ts .events)
 
--- t leads out of the set
-unfoldable pub leavesSet : List ℕ → Transition → Bool
-leavesSet set t = elem (t .source) set && not (elem (t .target) set)
+-- t leads out of the set of states
+unfoldable pub exits : List ℕ → Transition → Bool
+exits set t = elem (t .source) set && not (elem (t .target) set)
 
 -- the set with the target of the transition, if there is one
 unfoldable pub withTarget : Option Transition → List ℕ → List ℕ
@@ -84,7 +84,7 @@ withTarget (some t) set = t .target ∷ set
 -- the set grown n times, each time by the target of the first transition that leads out of it
 unfoldable pub grown : List Transition → ℕ → List ℕ → List ℕ
 grown ts zero set = set
-grown ts (suc n) set = grown ts n (withTarget (first (leavesSet set) ts) set)
+grown ts (suc n) set = grown ts n (withTarget (first (exits set) ts) set)
 
 -- the states that are reached from the initial state
 unfoldable pub reached : TransitionSystem → List ℕ
