@@ -2,7 +2,7 @@
 --
 -- What has to be believed, beside the library: Region and Table; Form's `written`, `Formed`, `Follows`; Text's `write`, `Limits`, `system`; IsName;
 -- and what these name: At, elem and count, `bytes`, `digits`, `refuse`, stateCount and eventNames, isStepLine and isMachineLine, linesOf, select.
--- Everything else in specs/ computes, and is held to these here.
+-- Everything else in specs/ computes, and is held to these here; the sheet's bytes by a reader of their own, `sheetForm`.
 use Prim.Native.Nat.{ℕ, suc, _+_, _≤_, _<_, _^_, _/_, _%_}
 use mathlib.Core.Path.{_≡_}
 use mathlib.Core.Logic.{_↔_, _⊎_}
