@@ -102,10 +102,10 @@ demand2 s =
       as-far-as-10 = decides 10 s (asFarAs10 s) (verdict10 s);
       as-far-as-12 = decides 12 s (asFarAs12 s) (verdict12 s);
       lines = lines-counted s;
-      line-of = λ v r. line-of v;
+      line-of = line-of;
       transition-system = λ v p. let l = left7 s v p in is-transition-system (system v) (l .within) (l .refuses);
       runs = λ v p es u. system-walk (system v) (no-fork v (left7 s v p)) es (v .initial) u;
-      regions = λ v r. all-alike-iff (system v);
+      regions = all-alike-iff;
       all-states = λ v r. all-states-region (system v) (within-of v (r .1));
       machines = λ v p. let l = left10 s v p in derived (system v) (v .machines) (l .left .within) (l .good) (l .left .listed);
       closure = λ v p e k. let l = left12 s v p in cover-iff (system v) (v .machines) (l .left .left .within) (l .left .good) (l .left .left .listed) .0 (l .refuses) e k;

@@ -22,6 +22,7 @@ use Rattle.model.proofs.Bounds.{Within, Listed}
 use Rattle.model.proofs.Places.{Good}
 use Rattle.model.proofs.Moves.{MoveView, moves, stays, move-view, moveOf}
 use Rattle.model.proofs.Arcs.{in-place, arc-iff}
+use Rattle.model.proofs.Limits.{within-of}
 
 -- ---- the moves of a machine
 
@@ -199,22 +200,13 @@ move-low p m b g e v h = go (move-view p m e)
         (place-low p m g (t .source) (b .source t k), place-low p m g (t .target) (b .target t k))
 
 module _ (v : Input) (w : Limits v) (g : (m : Machine) → List·Memᴰ m (v .machines) → Good (system v) m) where
-  bounds : Within (system v)
-  bounds =
-      record {
-        initial = omega (arith, w .initial, w .states-least);
-        source = λ t k. w .transitions t k .source;
-        event = λ t k. w .transitions t k .event;
-        target = λ t k. w .transitions t k .target;
-      }
-
   one-small : (k : ℕ) → k < 16 → (m : Machine) → List·Memᴰ m (v .machines) → Small (v .names) (sheetLine (system v) k m)
   unfolding sheetLine
   one-small k l m i =
       record {
         number = omega arith;
         count = omega (arith, most);
-        start = omega (arith, most, place-low (system v) m (g m i) (v .initial) (bounds .initial));
+        start = omega (arith, most, place-low (system v) m (g m i) (v .initial) (within-of v w .initial));
         most = omega (arith, moves-length (system v) m (length (v .names)), w .names-most);
         event = λ x j. in-moves (system v) m (length (v .names)) x j .low;
         pre = λ x j. omega (arith, most, low x j .0);
@@ -226,7 +218,7 @@ module _ (v : Input) (w : Limits v) (g : (m : Machine) → List·Memᴰ m (v .ma
 
       low : (x : EventMove) → List·Memᴰ x (movesBelow (system v) m (length (v .names))) → (x .pre < length (m .places)) × (x .post < length (m .places))
       low x j =
-          move-low (system v) m bounds (g m i) (x .event) (record { pre = x .pre; post = x .post }) (in-moves (system v) m (length (v .names)) x j .is)
+          move-low (system v) m (within-of v w) (g m i) (x .event) (record { pre = x .pre; post = x .post }) (in-moves (system v) m (length (v .names)) x j .is)
 
   pub lines-small : (l : SheetLine) → List·Memᴰ l (sheetLines (system v) 0 (v .machines)) → Small (v .names) l
   lines-small l i =

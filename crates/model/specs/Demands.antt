@@ -131,13 +131,13 @@ pub record Demand2 (s : List ℕ) : Type 0 where
   pub as-far-as-12 : Decides 12 s (asFarAs12 s)
   -- "every line ended by byte 10", "Lines count from 1": transition k stands on line k + 3
   pub lines : (ls : List Line) (rest : List ℕ) → Begins s ls rest → count (eqb 10) s ≡ length ls + count (eqb 10) rest
-  pub line-of : (v : Input) → Reads s v → (k : ℕ) (t : Transition) → At (v .transitions) k t
+  pub line-of : (v : Input) (k : ℕ) (t : Transition) → At (v .transitions) k t
       → At (linesOf v) (k + 2) (step (t .source) (getD (v .names) (t .event) []) (t .target))
   -- 000, Definition 1
   pub transition-system : (v : Input) → Passes 7 s v → IsTransitionSystem (system v)
   pub runs : (v : Input) → Passes 7 s v → (es : List ℕ) (u : ℕ) → (systemRuns (system v) es ≡ some u) ↔ Walk (system v) (v .initial) es u
   -- 003, Definition 8 in the words of document 01
-  pub regions : (v : Input) → Reads s v → (e : ℕ) (r : States) → RegionFor (system v) e r ↔ AllAlike (system v) e r
+  pub regions : (ts : TransitionSystem) (e : ℕ) (r : States) → RegionFor ts e r ↔ AllAlike ts e r
   -- "The set of all states is a region."
   pub all-states : (v : Input) → Reads s v → IsRegion (system v) (λ u. ltb u (v .states))
   pub machines : (v : Input) → Passes 10 s v → Derived (system v) (v .machines)
