@@ -40,6 +40,7 @@ pub mod Faith
 pub mod Kept
 pub mod Differs
 -- the services and the demands
+pub mod Cases
 pub mod Verdicts
 pub mod Lending
 pub mod Naming

@@ -12,3 +12,4 @@ pub mod Table
 pub mod Services
 pub mod Demands
 pub mod Examples
+pub mod Cases

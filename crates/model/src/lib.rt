@@ -1,1 +1,33 @@
-// The model has no code: its definitions (specs/) and theorems (proofs/) are what the crates above cite.
+// The types that the crates share. The model's definitions (specs/) and theorems (proofs/) are what the crates above cite.
+
+// Why a call is refused. Document 01 has the table; a comment gives its word.
+pub enum Refusal {
+    // misformed
+    Malformed { line: usize },
+    // oversize; line 0 is the whole text
+    LimitExceeded { line: usize },
+    // stranger
+    Undeclared { line: usize },
+    // standstill
+    SelfLoop { line: usize },
+    // fork
+    Nondeterministic { line: usize, earlier: usize },
+    // idle event
+    UnusedEvent { event: usize },
+    // unreached
+    Unreachable { state: usize },
+    // doubled
+    DuplicateState { machine: usize, state: usize },
+    // missing
+    UncoveredState { machine: usize, state: usize },
+    // uneven
+    NotARegion { machine: usize, event: usize },
+    // unheld
+    IneffectiveEvent { event: usize },
+    // open
+    NotExcitationClosed { event: usize, state: usize },
+    // short sheet
+    BufferTooShort { needed: usize },
+    // odd call
+    UnknownEvent { position: usize },
+}

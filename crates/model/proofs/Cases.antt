@@ -1,0 +1,54 @@
+-- Two refusals of the code that have the same number and details are the same.
+use Prim.Native.Nat.{ℕ}
+use mathlib.Core.Path.{_≡_, refl, ap, sym, _∙_}
+use mathlib.Core.Bool.{cond}
+use lib.Dec.{eqb}
+use Rattle.model.specs.declared.Refusal as D
+use Rattle.model.specs.declared.Refusal.the-variants as C
+use Rattle.model.specs.Refusal.{Refusal}
+use Rattle.model.specs.Cases.{tabled}
+
+-- the case with this number and these details
+caseOf : Refusal → D.Refusal
+caseOf r = from 1 (C.Malformed a)
+    (from 2 (C.LimitExceeded a)
+    (from 3 (C.Undeclared a)
+    (from 4 (C.SelfLoop a)
+    (from 5 (C.Nondeterministic a b)
+    (from 6 (C.UnusedEvent a)
+    (from 7 (C.Unreachable a)
+    (from 8 (C.DuplicateState a b)
+    (from 9 (C.UncoveredState a b)
+    (from 10 (C.NotARegion a b)
+    (from 11 (C.IneffectiveEvent a)
+    (from 12 (C.NotExcitationClosed a b)
+    (from 13 (C.BufferTooShort a) (C.UnknownEvent a)))))))))))))
+  where
+    a : ℕ
+    a = r .detail
+
+    b : ℕ
+    b = r .second
+
+    from : ℕ → D.Refusal → D.Refusal → D.Refusal
+    from n x y = cond (eqb (r .number) n) x y
+
+case-of-tabled : (x : D.Refusal) → caseOf (tabled x) ≡ x
+unfolding tabled caseOf
+case-of-tabled (C.Malformed line) = refl
+case-of-tabled (C.LimitExceeded line) = refl
+case-of-tabled (C.Undeclared line) = refl
+case-of-tabled (C.SelfLoop line) = refl
+case-of-tabled (C.Nondeterministic line earlier) = refl
+case-of-tabled (C.UnusedEvent event) = refl
+case-of-tabled (C.Unreachable state) = refl
+case-of-tabled (C.DuplicateState machine state) = refl
+case-of-tabled (C.UncoveredState machine state) = refl
+case-of-tabled (C.NotARegion machine event) = refl
+case-of-tabled (C.IneffectiveEvent event) = refl
+case-of-tabled (C.NotExcitationClosed event state) = refl
+case-of-tabled (C.BufferTooShort needed) = refl
+case-of-tabled (C.UnknownEvent position) = refl
+
+pub tabled-injective : (x y : D.Refusal) → tabled x ≡ tabled y → x ≡ y
+tabled-injective x y e = sym (case-of-tabled x) ∙ ap caseOf e ∙ case-of-tabled y
