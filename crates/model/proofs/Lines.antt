@@ -90,7 +90,7 @@ figures-complete xs h s at rest e =
     (λ m q. ap (λ (o : Parsed (Unit {0})). after o (λ _ k. figure s k)) (lit-fails (bytes " ") s m (41 ∷ rest) q tt)) e
 
 -- a line that may follow these
-abbrev Fits : List Line → Line → Type 0
+abbrev pub Fits : List Line → Line → Type 0
 Fits ls l = Formed l × Follows ls l
 
 -- line 1
@@ -349,7 +349,7 @@ pub record LineRead (ls : List Line) (s : List ℕ) (at : ℕ) (l : Line) (next 
   pub moved : next ≡ at + length (written l)
   pub inside : next ≤ length s
 
-line-fits : (ls : List Line) → ReaderSound (lineAfter ls) written (Fits ls)
+pub line-fits : (ls : List Line) → ReaderSound (lineAfter ls) written (Fits ls)
 unfolding lineAfter
 line-fits [] s at l next e = states-sound s at l next e
 line-fits (x ∷ []) s at l next e = events-sound x s at l next e

@@ -1,0 +1,196 @@
+-- From the code's answer back to the line that stands there. A reader of one kind of line finds no other kind.
+use Prim.Native.Nat.{ℕ, _≤_}
+use native.Mathlib.Omega.{arith}
+use mathlib.Core.Path.{_≡_, refl, ap, sym, _∙_, subst}
+use mathlib.Core.Bool.{Bool, true, false, cond, and-eq-true-iff}
+use mathlib.Core.List.{List, _∷_, _++_, List·Memᴰ}
+use lib.Dec.{leb}
+use lib.ListN.{length}
+use borrow.Author.Tests.{le-leb}
+use Rattle.model.specs.Machine.{Place}
+use Rattle.model.specs.Bytes.{bytes, Name, IsName}
+use Rattle.model.specs.Reading.{Parsed, fail, got, after, litBytes, figure, name, items}
+use Rattle.model.specs.Form.{Line, states, events, step, machine, statesLine, spacedName, eventsLine, stepLine, place, machineLine}
+use Rattle.model.proofs.Words.{name-sound, items-sound}
+use Rattle.lexer.specs.declared.Word.{Word}
+use Rattle.lexer.specs.declared.Word.the-variants.{Missing, Found}
+use Rattle.lexer.specs.Words.{high, low}
+use Rattle.lexer.proofs.Moves.{spaced-name-sound}
+use Rattle.lines.specs.Lines.{asStates, namesFrom, eventsRows, noEvents, asEvents, asStep, placeRow, doubledMark, allBelow, withinLimits, withoutRow, noMachine, machineRow, asMachine}
+use Rattle.lines.specs.declared.EventsLine.{EventsLine}
+use Rattle.lines.specs.declared.StepLine.{StepLine}
+use Rattle.lines.specs.declared.StepLine.the-variants as S
+use Rattle.lines.specs.declared.MachineLine.{MachineLine}
+
+-- a line of the kind K, or none
+data Only {A : Type 0} (K : A → Line) (Ok : A → Type 0) (o : Parsed Line) : Type 0 where
+  missed : o ≡ fail → Only K Ok o
+  read : (a : A) (n : ℕ) → o ≡ got (K a) n → Ok a → Only K Ok o
+
+only-after : {A B : Type 0} {K : A → Line} {Ok : A → Type 0} (o : Parsed B) (f : B → ℕ → Parsed Line)
+    → ((b : B) (n : ℕ) → o ≡ got b n → Only K Ok (f b n)) → Only K Ok (after o f)
+only-after fail f h = missed refl
+only-after (got b n) f h = h b n refl
+
+which : {A C : Type 0} {K : A → Line} {Ok : A → Type 0} {o : Parsed Line} → Only K Ok o → (o ≡ fail → C)
+    → ((a : A) (n : ℕ) → o ≡ got (K a) n → Ok a → C) → C
+which (missed e) f g = f e
+which (read a n e h) f g = g a n e h
+
+module _ (s : List ℕ) (at : ℕ) where
+  states-only : Only states (λ _. Unit {0}) (statesLine s at)
+  unfolding statesLine
+  states-only =
+      only-after (litBytes (bytes "(states ") s at) _ λ _ m _.
+      only-after (figure s m) _ λ n k _.
+      only-after (litBytes (bytes ")\n") s k) _ λ _ next _.
+      read n next refl tt
+
+  events-only : Only events (λ es. (e : Name) → List·Memᴰ e es → IsName e) (eventsLine s at)
+  unfolding eventsLine
+  events-only =
+      only-after (litBytes (bytes "(events") s at) _ λ _ m _.
+      only-after (items spacedName s m) _ λ es k h.
+      only-after (litBytes (bytes ")\n") s k) _ λ _ next _.
+      read es next refl (items-sound spacedName (λ e. bytes " " ++ e) IsName spaced-name-sound s m es k h .0)
+
+  step-only : Only (λ (x : ℕ × Name × ℕ). step (x .0) (x .1) (x .2)) (λ x. IsName (x .1)) (stepLine s at)
+  unfolding stepLine
+  step-only =
+      only-after (litBytes (bytes "(step ") s at) _ λ _ m _.
+      only-after (figure s m) _ λ a k _.
+      only-after (litBytes (bytes " ") s k) _ λ _ l _.
+      only-after (name s l) _ λ e i h.
+      only-after (litBytes (bytes " ") s i) _ λ _ j _.
+      only-after (figure s j) _ λ b p _.
+      only-after (litBytes (bytes ")\n") s p) _ λ _ next _.
+      read (a, e, b) next refl (name-sound s l e i h .0)
+
+  machine-only : Only machine (λ _. Unit {0}) (machineLine s at)
+  unfolding machineLine
+  machine-only =
+      only-after (litBytes (bytes "(machine") s at) _ λ _ m _.
+      only-after (place s m) _ λ p k _.
+      only-after (items place s k) _ λ ps l _.
+      only-after (litBytes (bytes ")\n") s l) _ λ _ next _.
+      read (p ∷ ps) next refl tt
+
+-- a test that is false and true
+other : {C : Type 0} {b : Bool} → b ≡ false → b ≡ true → C
+other p q = let z : _≡_ {A = ℕ} 0 1 = cc in absurd (omega arith)
+
+-- the code's answers
+module _ (s : List ℕ) (at : ℕ) {r : Word} (p : r ≡ asStates (statesLine s at)) where
+  pub states-got : {n next : ℕ} → r ≡ Found n next → statesLine s at ≡ got (states n) next
+  unfolding asStates
+  states-got {n} {next} q =
+      which (states-only s at) (λ e. let f = ap asStates e in let z : _≡_ {A = ℕ} 0 1 = cc in absurd (omega arith)) λ m k e _.
+      let f = ap asStates e in
+      let a : m ≡ n = cc in
+      let b : k ≡ next = cc in
+      cc
+
+  pub states-missing : r ≡ Missing → statesLine s at ≡ fail
+  unfolding asStates
+  states-missing q =
+      which (states-only s at) (λ e. e) λ m k e _.
+      let f = ap asStates e in
+      let z : _≡_ {A = ℕ} 0 1 = cc in
+      absurd (omega arith)
+
+-- the event's name is told by its length and its two numbers
+pub record GotStep (o : Parsed Line) (a l h w b next : ℕ) : Type 0 where
+  pub name : Name
+  pub read : o ≡ got (step a name b) next
+  pub is-name : IsName name
+  pub long : l ≡ length name
+  pub high-is : h ≡ high name
+  pub low-is : w ≡ low name
+
+module _ (s : List ℕ) (at : ℕ) {r : StepLine} (p : r ≡ asStep (stepLine s at)) where
+  pub step-got : {a l h w b next : ℕ} → r ≡ S.Found a l h w b next → GotStep (stepLine s at) a l h w b next
+  unfolding asStep
+  step-got {a} {l} {h} {w} {b} {next} q =
+      which (step-only s at) (λ e. let f = ap asStep e in let z : _≡_ {A = ℕ} 0 1 = cc in absurd (omega arith)) λ (x, e, y) k g i.
+      let f = ap asStep g in
+      let m : x ≡ a = cc in
+      let n : y ≡ b = cc in
+      let o : k ≡ next = cc in
+      record { name = e; read = cc; is-name = i; long = cc; high-is = cc; low-is = cc }
+
+  pub step-missing : r ≡ S.Missing → stepLine s at ≡ fail
+  unfolding asStep
+  step-missing q =
+      which (step-only s at) (λ e. e) λ m k e _.
+      let f = ap asStep e in
+      let z : _≡_ {A = ℕ} 0 1 = cc in
+      absurd (omega arith)
+
+pub record GotEvents (o : Parsed Line) (at : ℕ) (r : EventsLine) : Type 0 where
+  pub names : List Name
+  pub read : o ≡ got (events names) (r .next)
+  pub rows : r ≡ eventsRows true (namesFrom at) names (r .next)
+  pub each : (e : Name) → List·Memᴰ e names → IsName e
+
+module _ (s : List ℕ) (at : ℕ) {r : EventsLine} (p : r ≡ asEvents at (eventsLine s at)) where
+  pub events-got : r .formed ≡ true → GotEvents (eventsLine s at) at r
+  unfolding asEvents noEvents eventsRows
+  events-got q =
+      which (events-only s at) (λ e. other (ap (λ (x : EventsLine). x .formed) (p ∙ ap (asEvents at) e)) q) λ es k e h.
+      let f : r ≡ asEvents at (got (events es) k) = p ∙ ap (asEvents at) e in
+      let n : k ≡ r .next = sym (ap (λ (x : EventsLine). x .next) f) in
+      record { names = es; read = e ∙ ap (got (events es)) n; rows = f ∙ ap (eventsRows true (namesFrom at) es) n; each = h }
+
+  pub events-missing : r .formed ≡ false → eventsLine s at ≡ fail
+  unfolding asEvents eventsRows
+  events-missing q = which (events-only s at) (λ e. e) λ es k e _. other q (ap (λ (x : EventsLine). x .formed) (p ∙ ap (asEvents at) e))
+
+-- what a machine line with these places says
+pub record GotMachine (n : ℕ) (o : Parsed Line) (r : MachineLine) : Type 0 where
+  pub listed : List Place
+  pub read : o ≡ got (machine listed) (r .next)
+  pub formed-is : r .formed ≡ true
+  pub counted : r .places ≡ length listed
+  pub all-declared : r .declared ≡ allBelow n listed
+  -- within its limits
+  pub doubled-is : length listed ≤ 64 → allBelow n listed ≡ true → r .doubled ≡ doubledMark n listed
+  pub row-is : length listed ≤ 64 → allBelow n listed ≡ true → r .row ≡ placeRow listed
+
+module _ (n : ℕ) (ps : List Place) (k : ℕ) {o : Parsed Line} (e : o ≡ got (machine ps) k) where
+  -- within its limits or not
+  by-limits : (b : Bool) → withinLimits n ps ≡ b → GotMachine n o (cond b (machineRow n ps k) (withoutRow true (length ps) (allBelow n ps) k))
+  unfolding withinLimits machineRow withoutRow
+  by-limits true h =
+      record {
+        listed = ps;
+        read = e;
+        formed-is = refl;
+        counted = refl;
+        all-declared = sym (and-eq-true-iff (leb (length ps) 64) (allBelow n ps) .0 h .1);
+        doubled-is = λ _ _. refl;
+        row-is = λ _ _. refl;
+      }
+  by-limits false h =
+      let out : length ps ≤ 64 → allBelow n ps ≡ true → ⊥ = λ l a. let w : withinLimits n ps ≡ true = rw (le-leb (length ps) 64 l, a) in other h w in
+      record {
+        listed = ps;
+        read = e;
+        formed-is = refl;
+        counted = refl;
+        all-declared = refl;
+        doubled-is = λ l a. absurd (out l a);
+        row-is = λ l a. absurd (out l a);
+      }
+
+module _ (n : ℕ) (s : List ℕ) (at : ℕ) {r : MachineLine} (p : r ≡ asMachine n (machineLine s at)) where
+  given : (ps : List Place) (k : ℕ) → machineLine s at ≡ got (machine ps) k → GotMachine n (machineLine s at) r
+  unfolding asMachine
+  given ps k e = subst (GotMachine n (machineLine s at)) (sym (p ∙ ap (asMachine n) e)) (by-limits n ps k e (withinLimits n ps) refl)
+
+  pub machine-got : r .formed ≡ true → GotMachine n (machineLine s at) r
+  unfolding asMachine noMachine withoutRow
+  machine-got q =
+      which (machine-only s at) (λ e. other (ap (λ (x : MachineLine). x .formed) (p ∙ ap (asMachine n) e)) q) (λ ps k e _. given ps k e)
+
+  pub machine-missing : r .formed ≡ false → machineLine s at ≡ fail
+  machine-missing q = which (machine-only s at) (λ e. e) (λ ps k e _. other q (given ps k e .formed-is))

@@ -1,0 +1,13 @@
+-- The laws behind the lines. `Rows` and `Found` are for the crates above.
+
+-- rows: what is stored where
+pub mod Rows
+-- the names of an events line, the words of a step line
+pub mod Events
+pub mod Steps
+-- a machine line: how its row is filled, and the readers of its places and of the line
+pub mod Filling
+pub mod PlaceReader
+pub mod MachineReader
+-- from an answer back to what was read
+pub mod Found

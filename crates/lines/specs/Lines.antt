@@ -1,0 +1,118 @@
+-- What the code answers to what a line's reader finds.
+use Prim.Native.Nat.{ℕ, zero, suc, _+_}
+use mathlib.Core.Bool.{Bool, true, false, cond, _&&_}
+use mathlib.Core.List.{List, [], _∷_, _++_, map, flatten}
+use mathlib.Core.Option.{Option, none, some}
+use lib.Dec.{leb, ltb, eqb}
+use lib.ListN.{length, replicate}
+use lib.Seq.{sets}
+use Rattle.model.specs.Lists.{every, elem, count, lowest}
+use Rattle.model.specs.Machine.{Place, placeIn}
+use Rattle.model.specs.Bytes.{Name}
+use Rattle.model.specs.Reading.{Parsed, fail, got}
+use Rattle.model.specs.Form.{Line, states, events, step, machine}
+use Rattle.lexer.specs.declared.Word.{Word}
+use Rattle.lexer.specs.declared.Word.the-variants.{Missing, Found}
+use Rattle.lexer.specs.Words.{high, low}
+use Rattle.lines.specs.declared.EventsLine.{EventsLine}
+use Rattle.lines.specs.declared.StepLine.{StepLine}
+use Rattle.lines.specs.declared.StepLine.the-variants as S
+use Rattle.lines.specs.declared.MachineLine.{MachineLine}
+
+unfoldable pub asStates : Parsed Line → Word
+asStates fail = Missing
+asStates (got (states n) next) = Found n next
+asStates (got (events es) next) = Missing
+asStates (got (step a e b) next) = Missing
+asStates (got (machine ps) next) = Missing
+
+-- a row of n entries x, in which the values are stored from the front
+unfoldable pub row : ℕ → ℕ → List ℕ → List ℕ
+row n x xs = sets (replicate n x) 0 xs
+
+-- the position of each name of a list that begins at a position: each stands after a space
+unfoldable pub spots : ℕ → List Name → List ℕ
+spots at [] = []
+spots at (e ∷ es) = (at + 1) ∷ spots (at + 1 + length e) es
+
+-- the length of "(events", after which the names begin
+unfoldable pub namesFrom : ℕ → ℕ
+namesFrom at = at + 7
+
+unfoldable pub eventsRows : Bool → ℕ → List Name → ℕ → EventsLine
+eventsRows formed at es next =
+    record {
+      formed = formed;
+      count = length es;
+      at = row 64 0 (spots at es);
+      «len» = row 64 0 (map length es);
+      «high» = row 64 0 (map high es);
+      «low» = row 64 0 (map low es);
+      next = next;
+    }
+
+unfoldable pub noEvents : EventsLine
+noEvents = eventsRows false 0 [] 0
+
+unfoldable pub asEvents : ℕ → Parsed Line → EventsLine
+asEvents at fail = noEvents
+asEvents at (got (states n) next) = noEvents
+asEvents at (got (events es) next) = eventsRows true (namesFrom at) es next
+asEvents at (got (step a e b) next) = noEvents
+asEvents at (got (machine ps) next) = noEvents
+
+unfoldable pub asStep : Parsed Line → StepLine
+asStep fail = S.Missing
+asStep (got (states n) next) = S.Missing
+asStep (got (events es) next) = S.Missing
+asStep (got (step a e b) next) = S.Found a (length e) (high e) (low e) b next
+asStep (got (machine ps) next) = S.Missing
+
+-- the values of a function at 0 to n - 1
+unfoldable pub tabulate : (ℕ → ℕ) → ℕ → List ℕ
+tabulate f zero = []
+tabulate f (suc n) = tabulate f n ++ (f n ∷ [])
+
+-- the number of the place with the state x, or the mark of a state in no place
+unfoldable pub placeMark : List Place → ℕ → ℕ
+placeMark ps x = cond (elem x (flatten ps)) (placeIn ps x) 255
+
+unfoldable pub placeRow : List Place → List ℕ
+placeRow ps = tabulate (placeMark ps) 256
+
+-- a state, or the number that no state has
+unfoldable pub orNoState : Option ℕ → ℕ
+orNoState none = 256
+orNoState (some x) = x
+
+-- the lowest state below n that is listed twice
+unfoldable pub doubledMark : ℕ → List Place → ℕ
+doubledMark n ps = orNoState (lowest (λ x. ltb 1 (count (eqb x) (flatten ps))) n)
+
+-- all states are below n
+unfoldable pub allBelow : ℕ → List Place → Bool
+allBelow n = every (every (λ x. ltb x n))
+
+unfoldable pub withinLimits : ℕ → List Place → Bool
+withinLimits n ps = leb (length ps) 64 && allBelow n ps
+
+-- a line whose row is not told: none of its form, or one past its limits
+unfoldable pub withoutRow : Bool → ℕ → Bool → ℕ → MachineLine
+withoutRow formed places declared next =
+    record { formed = formed; places = places; declared = declared; doubled = 256; row = replicate 256 255; next = next }
+
+unfoldable pub noMachine : MachineLine
+noMachine = withoutRow false 0 false 0
+
+unfoldable pub machineRow : ℕ → List Place → ℕ → MachineLine
+machineRow n ps next =
+    record { formed = true; places = length ps; declared = true; doubled = doubledMark n ps; row = placeRow ps; next = next }
+
+-- the line's row is told if it is within its limits
+unfoldable pub asMachine : ℕ → Parsed Line → MachineLine
+asMachine n fail = noMachine
+asMachine n (got (states k) next) = noMachine
+asMachine n (got (events es) next) = noMachine
+asMachine n (got (step a e b) next) = noMachine
+asMachine n (got (machine ps) next) =
+    cond (withinLimits n ps) (machineRow n ps next) (withoutRow true (length ps) (allBelow n ps) next)

@@ -1,0 +1,385 @@
+// The lines of a text, each at a position: their form, and what they hold as numbers.
+ghost use mathlib.Core.Path.{_≡_};
+ghost use Prim.Native.Nat.{_<_, _≤_, _+_};
+ghost use lib.ListN.{length};
+ghost use lib.Seq.{sets};
+ghost use mathlib.Core.List.{map};
+ghost use Rattle.model.specs.Reading.{many};
+ghost use Rattle.model.specs.Form.{statesLine, eventsLine, stepLine, machineLine, place, spacedFigure, spacedName};
+ghost use Rattle.lexer.specs.Words as Words;
+ghost use Rattle.lines.specs.Lines.{asStates, asEvents, asStep, asMachine, noEvents, withoutRow, spots};
+ghost use Rattle.lines.specs.Marking.{asNames, Long, marking, marked, markedAll, upTo64, opened, PlaceRead, PlacesRead};
+use lexer::NameWord;
+use lexer::Word;
+use lexer::read_figure;
+use lexer::read_literal;
+use lexer::read_name;
+use lexer::read_spaced_figure;
+use lexer::read_spaced_name;
+
+// The mark of a state that is in no place.
+pub const UNPLACED: u8 = 255;
+
+// The number that no state has.
+pub const NO_STATE: usize = 256;
+
+// An events line: how many names, and for each of the first 64 its position in the text, its length, and its bytes as two numbers.
+pub struct EventsLine {
+    pub formed: bool,
+    pub count: usize,
+    pub at: [usize; 64],
+    pub len: [usize; 64],
+    pub high: [u64; 64],
+    pub low: [u64; 64],
+    pub next: usize,
+}
+
+// A step line: the states, the event's name by its length and two numbers, and the position after the line.
+pub enum StepLine {
+    Missing,
+    Found {
+        source: usize,
+        len: usize,
+        high: u64,
+        low: u64,
+        target: usize,
+        next: usize,
+    },
+}
+
+// A machine line: how many places, whether all its states are declared; and if it is within its limits, the lowest state that it lists twice and the
+// place of each state.
+pub struct MachineLine {
+    pub formed: bool,
+    pub places: usize,
+    pub declared: bool,
+    pub doubled: usize,
+    pub row: [u8; 256],
+    pub next: usize,
+}
+
+// The states line at a position: how many there are.
+pub fn read_states(s: &[u8], at: usize) -> Word
+    ensures { λ r. ⌜ r ≡ asStates (statesLine (now (s .entry)) at) ⌝ }
+{
+    let Word::Found { value: _, next: a } = read_literal(s, at, b"(states ") else {
+        return Word::Missing;
+    };
+    let Word::Found { value, next: b } = read_figure(s, a) else {
+        return Word::Missing;
+    };
+    let Word::Found { value: _, next } = read_literal(s, b, b")\n") else {
+        return Word::Missing;
+    };
+    Word::Found { value, next }
+}
+
+// How many names, and the position after them.
+struct Names {
+    count: usize,
+    next: usize,
+}
+
+// The names that go on an events line at a position, into rows.
+fn read_names(
+    s: &[u8],
+    at: usize,
+    spot: &mut [usize; 64],
+    len: &mut [usize; 64],
+    high: &mut [u64; 64],
+    low: &mut [u64; 64],
+) -> Names
+    requires { ⌜ Long (now spot) (now «len») (now «high») (now «low») ⌝ }
+    ensures { λ r. ⌜ r ≡ asNames (many spacedName (now (s .entry)) at) ⌝ }
+    ensures { λ r. ⌜ now (spot .exit) ≡ sets (now (spot .entry)) 0 (spots at (many spacedName (now (s .entry)) at .0)) ⌝ }
+    ensures { λ r. ⌜ now («len» .exit) ≡ sets (now («len» .entry)) 0 (map length (many spacedName (now (s .entry)) at .0)) ⌝ }
+    ensures { λ r. ⌜ now («high» .exit) ≡ sets (now («high» .entry)) 0 (map Words.high (many spacedName (now (s .entry)) at .0)) ⌝ }
+    ensures { λ r. ⌜ now («low» .exit) ≡ sets (now («low» .entry)) 0 (map Words.low (many spacedName (now (s .entry)) at .0)) ⌝ }
+{
+    let mut k = 0;
+    let mut i = at;
+    loop {
+        let NameWord::Found {
+            len: n,
+            high: h,
+            low: l,
+            next,
+        } = read_spaced_name(s, i)
+        else {
+            return Names { count: k, next: i };
+        };
+        if k < 64 {
+            spot[k] = next - n;
+            len[k] = n;
+            high[k] = h;
+            low[k] = l;
+        }
+        k += 1;
+        i = next;
+    }
+}
+
+fn no_events() -> EventsLine
+    ensures { λ r. ⌜ r ≡ noEvents ⌝ }
+{
+    EventsLine {
+        formed: false,
+        count: 0,
+        at: [0usize; 64],
+        len: [0usize; 64],
+        high: [0u64; 64],
+        low: [0u64; 64],
+        next: 0,
+    }
+}
+
+// The events line at a position.
+pub fn read_events(s: &[u8], at: usize) -> EventsLine
+    ensures { λ r. ⌜ r ≡ asEvents at (eventsLine (now (s .entry)) at) ⌝ }
+{
+    let Word::Found { value: _, next: a } = read_literal(s, at, b"(events") else {
+        return no_events();
+    };
+    let mut spot = [0usize; 64];
+    let mut len = [0usize; 64];
+    let mut high = [0u64; 64];
+    let mut low = [0u64; 64];
+    let names = read_names(s, a, &mut spot, &mut len, &mut high, &mut low);
+    let count = names.count;
+    let end = names.next;
+    let Word::Found { value: _, next } = read_literal(s, end, b")\n") else {
+        return no_events();
+    };
+    EventsLine {
+        formed: true,
+        count,
+        at: spot,
+        len,
+        high,
+        low,
+        next,
+    }
+}
+
+// The step line at a position.
+pub fn read_step(s: &[u8], at: usize) -> StepLine
+    ensures { λ r. ⌜ r ≡ asStep (stepLine (now (s .entry)) at) ⌝ }
+{
+    let Word::Found { value: _, next: a } = read_literal(s, at, b"(step ") else {
+        return StepLine::Missing;
+    };
+    let Word::Found {
+        value: source,
+        next: b,
+    } = read_figure(s, a)
+    else {
+        return StepLine::Missing;
+    };
+    let NameWord::Found {
+        len,
+        high,
+        low,
+        next: c,
+    } = read_spaced_name(s, b)
+    else {
+        return StepLine::Missing;
+    };
+    let Word::Found {
+        value: target,
+        next: d,
+    } = read_spaced_figure(s, c)
+    else {
+        return StepLine::Missing;
+    };
+    let Word::Found { value: _, next } = read_literal(s, d, b")\n") else {
+        return StepLine::Missing;
+    };
+    StepLine::Found {
+        source,
+        len,
+        high,
+        low,
+        target,
+        next,
+    }
+}
+
+// What is known of a machine's states so far, beside the row: whether all are declared, and the lowest that was listed twice.
+struct Marks {
+    declared: bool,
+    doubled: usize,
+}
+
+// A state of place p goes into the row if it is below n; the first place that lists it counts.
+fn mark(row: &mut [u8; 256], n: usize, p: u8, m: Marks, x: usize) -> Marks
+    requires { ⌜ n ≤ 256 ⌝ }
+    ensures { λ r. ⌜ marking r (now (row .exit)) ≡ marked n p (marking m (now (row .entry))) x ⌝ }
+{
+    let declared = m.declared;
+    let doubled = m.doubled;
+    if n <= x {
+        return Marks {
+            declared: false,
+            doubled,
+        };
+    }
+    if row[x] == UNPLACED {
+        row[x] = p;
+        return Marks { declared, doubled };
+    }
+    if x < doubled {
+        return Marks {
+            declared,
+            doubled: x,
+        };
+    }
+    Marks { declared, doubled }
+}
+
+// Marks, and the position after what was read.
+struct MarksAt {
+    marks: Marks,
+    next: usize,
+}
+
+// The states that go on a place, each after a space.
+fn mark_states(s: &[u8], at: usize, row: &mut [u8; 256], n: usize, p: u8, m: Marks) -> MarksAt
+    requires { ⌜ n ≤ 256 ⌝ }
+    ensures { λ r. ⌜ r .next ≡ many spacedFigure (now (s .entry)) at .1 ⌝ }
+    ensures { λ r. ⌜ marking (r .marks) (now (row .exit)) ≡ markedAll n p (marking m (now (row .entry))) (many spacedFigure (now (s .entry)) at .0) ⌝ }
+{
+    let mut marks = m;
+    let mut i = at;
+    loop {
+        let Word::Found { value, next } = read_spaced_figure(s, i) else {
+            return MarksAt { marks, next: i };
+        };
+        let more = mark(row, n, p, marks, value);
+        marks = more;
+        i = next;
+    }
+}
+
+// A place, after the bracket that opens it. Where it is missing the row is of no use any more.
+enum PlaceAt {
+    Missing,
+    Found { marks: Marks, next: usize },
+}
+
+fn mark_place(s: &[u8], at: usize, row: &mut [u8; 256], n: usize, p: u8, m: Marks) -> PlaceAt
+    requires { ⌜ n ≤ 256 ⌝ }
+    ensures { λ r. ⌜ PlaceRead n p (marking m (now (row .entry))) (opened (now (s .entry)) at) r (now (row .exit)) ⌝ }
+{
+    let Word::Found { value: x, next: a } = read_figure(s, at) else {
+        return PlaceAt::Missing;
+    };
+    let first = mark(row, n, p, m, x);
+    let listed = mark_states(s, a, row, n, p, first);
+    let marks = listed.marks;
+    let end = listed.next;
+    let Word::Found { value: _, next } = read_literal(s, end, b")") else {
+        return PlaceAt::Missing;
+    };
+    PlaceAt::Found { marks, next }
+}
+
+// The number of a place; 64 for each past the limit.
+fn place_number(k: usize) -> u8
+    ensures { λ r. ⌜ r ≡ upTo64 k ⌝ }
+{
+    if k < 64 { k as u8 } else { 64 }
+}
+
+// The places of a machine line, or a place that has no form.
+enum Places {
+    Broken,
+    Found {
+        count: usize,
+        marks: Marks,
+        next: usize,
+    },
+}
+
+fn mark_places(s: &[u8], at: usize, row: &mut [u8; 256], n: usize, m: Marks) -> Places
+    requires { ⌜ n ≤ 256 ⌝ }
+    ensures { λ r. ⌜ PlacesRead n (marking m (now (row .entry))) (now (s .entry)) (many place (now (s .entry)) at) r (now (row .exit)) ⌝ }
+{
+    let mut count = 0;
+    let mut marks = m;
+    let mut i = at;
+    loop {
+        let Word::Found { value: _, next: a } = read_literal(s, i, b" (") else {
+            return Places::Found {
+                count,
+                marks,
+                next: i,
+            };
+        };
+        let p = place_number(count);
+        let PlaceAt::Found { marks: more, next } = mark_place(s, a, row, n, p, marks) else {
+            return Places::Broken;
+        };
+        marks = more;
+        count += 1;
+        i = next;
+    }
+}
+
+// A machine line that is read without its row: none of its form, or one past its limits.
+fn without_row(formed: bool, places: usize, declared: bool, next: usize) -> MachineLine
+    ensures { λ r. ⌜ r ≡ withoutRow formed places declared next ⌝ }
+{
+    MachineLine {
+        formed,
+        places,
+        declared,
+        doubled: NO_STATE,
+        row: [UNPLACED; 256],
+        next,
+    }
+}
+
+// The machine line at a position, against n states. Each state starts unplaced.
+pub fn read_machine(s: &[u8], at: usize, n: usize) -> MachineLine
+    requires { ⌜ n ≤ 256 ⌝ }
+    ensures { λ r. ⌜ r ≡ asMachine n (machineLine (now (s .entry)) at) ⌝ }
+{
+    let Word::Found { value: _, next: a } = read_literal(s, at, b"(machine") else {
+        return without_row(false, 0, false, 0);
+    };
+    let mut row = [UNPLACED; 256];
+    let none = Marks {
+        declared: true,
+        doubled: NO_STATE,
+    };
+    let Places::Found {
+        count,
+        marks,
+        next: end,
+    } = mark_places(s, a, &mut row, n, none)
+    else {
+        return without_row(false, 0, false, 0);
+    };
+    if count == 0 {
+        return without_row(false, 0, false, 0);
+    }
+    let Word::Found { value: _, next } = read_literal(s, end, b")\n") else {
+        return without_row(false, 0, false, 0);
+    };
+    let declared = marks.declared;
+    let doubled = marks.doubled;
+    if 64 < count {
+        return without_row(true, count, declared, next);
+    }
+    if !declared {
+        return without_row(true, count, false, next);
+    }
+    MachineLine {
+        formed: true,
+        places: count,
+        declared: true,
+        doubled,
+        row,
+        next,
+    }
+}

@@ -1,0 +1,63 @@
+-- `read_texts::one` stays within its buffers.
+use mathlib.Core.Path.{sym}
+use lib.Seq.{length-take-le}
+use borrow.Author.Needs.{needs}
+use Rattle.read_texts.proofs.one.Statement.{statement}
+use Rattle.read_texts.proofs.one.Tie as tie
+
+slice-aggregate-load : tie.Need-slice-aggregate-load
+slice-aggregate-load c = search needs
+
+load-requires : tie.Need-load-requires
+load-requires c κs = search needs
+
+returns : tie.Need-returns
+returns c = search needs
+
+array-read-size : tie.Need-array-read-size
+array-read-size c = search needs
+
+array-read-size-2 : tie.Need-array-read-size-2
+array-read-size-2 c = search needs
+
+size-requires : tie.Need-size-requires
+size-requires c κs = search needs
+
+slice-aggregate-load-2 : tie.Need-slice-aggregate-load-2
+slice-aggregate-load-2 c = search needs
+
+load-requires-2 : tie.Need-load-requires-2
+load-requires-2 c κs = search needs
+
+returns-2 : tie.Need-returns-2
+returns-2 c = search needs
+
+array-share-prefix-text : tie.Need-array-share-prefix-text
+array-share-prefix-text c = search needs
+
+slice-aggregate-answer : tie.Need-slice-aggregate-answer
+slice-aggregate-answer c = sym (length-take-le _ _ (search needs))
+
+answer-requires : tie.Need-answer-requires
+answer-requires c κs = search needs
+
+returns-3 : tie.Need-returns-3
+returns-3 c = search needs
+
+pub one-spec : {M : Type 1} → statement M
+one-spec =
+    tie.close
+    (tie.spec
+    slice-aggregate-load
+    load-requires
+    returns
+    array-read-size
+    array-read-size-2
+    size-requires
+    slice-aggregate-load-2
+    load-requires-2
+    returns-2
+    array-share-prefix-text
+    slice-aggregate-answer
+    answer-requires
+    returns-3)

@@ -1,0 +1,164 @@
+// Reads texts from standard input, each after its length in two bytes, and writes what the reader answers to each.
+ghost use Prim.Native.Nat.{_≤_, _<_};
+ghost use lib.ListN.{length};
+use libc::STDIN_FILENO;
+use libc::STDOUT_FILENO;
+use model::Refusal;
+use reader::Plan;
+use reader::Verdict;
+
+fn put(word: &[u8]) {
+    io::write_all(STDOUT_FILENO, word);
+}
+
+fn put_number(n: usize) {
+    put(b" ");
+    io::print_decimal(STDOUT_FILENO, n as u64);
+}
+
+fn wide(x: u8) -> usize
+    ensures { λ r. ⌜ r < 256 ⌝ }
+{
+    x as usize
+}
+
+// The numbers of a refusal by 1, 2 or 3; others do not come from the reader.
+fn put_refusal(why: Refusal) {
+    put(b"(refused");
+    match why {
+        Refusal::Malformed { line } => put_line(1, line),
+        Refusal::LimitExceeded { line } => put_line(2, line),
+        Refusal::Undeclared { line } => put_line(3, line),
+        _ => put(b" ?"),
+    }
+    put(b" 0)\n");
+}
+
+fn put_line(number: usize, line: usize) {
+    put_number(number);
+    put_number(line);
+}
+
+fn put_event(at: usize, len: usize) {
+    put(b"(event");
+    put_number(at);
+    put_number(len);
+    put(b")\n");
+}
+
+fn put_events(p: Plan) {
+    let count = p.events;
+    let mut k = 0;
+    while k < 64 && k < count {
+        put_event(p.name_at[k], p.name_len[k]);
+        k += 1;
+    }
+}
+
+fn put_step(source: u8, event: u8, target: u8) {
+    put(b"(step");
+    put_number(wide(source));
+    put_number(wide(event));
+    put_number(wide(target));
+    put(b")\n");
+}
+
+fn put_steps(p: Plan) {
+    let count = p.transitions;
+    let mut k = 0;
+    while k < 1024 && k < count {
+        put_step(p.source[k], p.event[k], p.target[k]);
+        k += 1;
+    }
+}
+
+// The place of each state of machine m, 255 for a state in none.
+fn put_row(p: Plan, m: usize)
+    requires { ⌜ m < 16 ⌝ }
+{
+    let n = p.states;
+    let from = m * 256;
+    let mut x = 0;
+    while x < 256 && x < n {
+        put_number(wide(p.place[from + x]));
+        x += 1;
+    }
+}
+
+fn put_machine(p: Plan, m: usize)
+    requires { ⌜ m < 16 ⌝ }
+{
+    put(b"(machine");
+    put_number(p.place_count[m]);
+    put_number(p.doubled[m]);
+    put_row(p, m);
+    put(b")\n");
+}
+
+fn put_machines(p: Plan) {
+    let count = p.machines;
+    let mut m = 0;
+    while m < 16 && m < count {
+        put_machine(p, m);
+        m += 1;
+    }
+}
+
+fn put_plan(p: Plan) {
+    put(b"(read");
+    put_number(p.states);
+    put_number(p.initial);
+    put(b")\n");
+    put_events(p);
+    put_steps(p);
+    put_machines(p);
+}
+
+fn answer(text: &[u8]) {
+    let r = reader::read(text);
+    let verdict = r.verdict;
+    match verdict {
+        Verdict::Refused(why) => put_refusal(why),
+        Verdict::Passed => {
+            let p = r.plan;
+            put_plan(p)
+        }
+    }
+}
+
+fn size(hi: u8, lo: u8) -> usize
+    ensures { λ r. ⌜ r ≤ 40000 ⌝ }
+{
+    let n = wide(hi) * 256 + wide(lo);
+    if n <= 40000 { n } else { 40000 }
+}
+
+// The next m bytes of the input, at the start of text.
+fn load(text: &mut [u8], m: usize) -> bool
+    requires { ⌜ m ≤ length (now text) ⌝ }
+{
+    let n = io::read_full(STDIN_FILENO, &mut text[..m]);
+    n == m
+}
+
+// One text; false at the end of the input.
+fn one() -> bool {
+    let mut head = [0u8; 2];
+    if !load(&mut head, 2) {
+        return false;
+    }
+    let m = size(head[0], head[1]);
+    let mut text = [0u8; 40000];
+    if !load(&mut text, m) {
+        return false;
+    }
+    answer(&text[..m]);
+    true
+}
+
+fn main() {
+    let mut turns = u64::MAX;
+    while turns > 0 && one() {
+        turns -= 1;
+    }
+}

@@ -1,0 +1,176 @@
+-- Looking names up in the rows of an events line: the first entry with a name's length and numbers is the event's number, and names are distinct if
+-- each is the first of its own.
+use Prim.Native.Nat.{ℕ, zero, suc, _+_, _<_, _≤_}
+use borrow.Author.Count.{below-more}
+use native.Mathlib.Omega.{arith}
+use mathlib.Core.Path.{_≡_, refl, ap, sym, _∙_, subst}
+use mathlib.Core.Logic.{_⊎_, inl, inr}
+use mathlib.Core.Bool.{Bool, true, false, not}
+use mathlib.Core.List.{List, [], _∷_, map}
+use lib.Dec.{T}
+use lib.ListN.{length, getD, length-map, List·getD-map}
+use Rattle.model.specs.Lists.{At, exists, index}
+use Rattle.model.specs.Bytes.{Name, IsName, sameName}
+use Rattle.model.specs.Text.{eventNumber, distinct}
+use Rattle.model.proofs.Laws.{dec, not-T, T-true, T-false, cond-true, cond-false}
+use Rattle.model.proofs.Positions.{at-below, at-getD, getD-mem, at-value, index-first, index-below, index-passes}
+use Rattle.model.proofs.Values.{same-eq, same-refl, mem-named, distinct-once, not-distinct}
+use Rattle.lexer.specs.Words.{high, low}
+use Rattle.lexer.proofs.Telling.{told, name-bytes}
+use Rattle.lines.specs.Lines.{row, eventsRows}
+use Rattle.lines.specs.declared.EventsLine.{EventsLine}
+use Rattle.lines.proofs.Rows.{getD-row}
+use Rattle.reader.specs.Sections.{NameRows, Finds, Events}
+
+-- an entry of the row of what f says of each name
+pub getD-row-map : (f : Name → ℕ) (es : List Name) (k : ℕ) → length es ≤ 64 → k < length es → getD (row 64 0 (map f es)) k (f []) ≡ f (getD es k [])
+getD-row-map f es k h i =
+    getD-row 64 0 (map f es) k (f []) (omega (arith, length-map es f)) (omega (arith, length-map es f)) ∙ List·getD-map f es k []
+
+-- the entry j of the rows has the length n and the numbers h and l
+pub record Same (lens highs lows : List ℕ) (n h l j : ℕ) : Type 0 where
+  pub high : getD highs j 0 ≡ h
+  pub low : getD lows j 0 ≡ l
+  pub long : getD lens j 0 ≡ n
+
+-- the entries before k are others
+pub record Sought (count : ℕ) (lens highs lows : List ℕ) (n h l k : ℕ) : Type 0 where
+  pub most : k ≤ count
+  pub others : (j : ℕ) → j < k → Same lens highs lows n h l j → ⊥
+
+-- the first that passes the test, by positions
+index-is : {A : Type 0} (f : A → Bool) (l : List A) (d : A) (k : ℕ) → k ≤ length l → ((j : ℕ) → j < k → T (not (f (getD l j d))))
+    → (k < length l → T (f (getD l k d))) → k ≡ index f l
+unfolding index
+index-is f [] d zero h b t = refl
+index-is f [] d (suc k) h b t = absurd (omega arith)
+index-is f (x ∷ l) d zero h b t = sym (cond-true (f x) 0 (suc (index f l)) (t (omega arith)))
+index-is f (x ∷ l) d (suc k) h b t =
+    let e : k ≡ index f l = index-is f l d k (omega arith) (λ j i. b (suc j) (omega arith)) (λ i. t (omega arith)) in
+    ap suc e ∙ sym (cond-false (f x) 0 (suc (index f l)) (b 0 (omega arith)))
+
+module _ {es : List Name} {count : ℕ} {lens highs lows : List ℕ} (r : NameRows es count lens highs lows) where
+  module _ (k : ℕ) (b : k < count) where
+    -- the rows tell the name k
+    pub entry : Same lens highs lows (length (getD es k [])) (high (getD es k [])) (low (getD es k [])) k
+    entry =
+        let i : k < length es = omega arith in
+        record {
+          high = ap (λ (l : List ℕ). getD l k 0) (r .high) ∙ getD-row-map high es k (r .most) i;
+          low = ap (λ (l : List ℕ). getD l k 0) (r .low) ∙ getD-row-map low es k (r .most) i;
+          long = ap (λ (l : List ℕ). getD l k 0) (r .lengths) ∙ getD-row-map length es k (r .most) i;
+        }
+
+    pub entry-name : IsName (getD es k [])
+    entry-name = r .names (getD es k []) (getD-mem es k [] (omega arith))
+
+    module _ {e : Name} {n h l : ℕ} (w : IsName e) (p : n ≡ length e) (q : h ≡ high e) (o : l ≡ low e) where
+      -- the entry k has what is sought if and only if it is this name
+      same-name : Same lens highs lows n h l k → T (sameName e (getD es k []))
+      same-name s =
+          let t = entry in
+          let i : e ≡ getD es k [] = told e (getD es k []) (name-bytes e w) (name-bytes (getD es k []) entry-name) (cc) (cc) (cc) in
+          subst (λ (x : Name). T (sameName e x)) i (same-refl e)
+
+      name-same : T (sameName e (getD es k [])) → Same lens highs lows n h l k
+      name-same u =
+          let i : e ≡ getD es k [] = same-eq e (getD es k []) u in
+          let t = entry in
+          record {
+            high = t .high ∙ ap high (sym i) ∙ sym q;
+            low = t .low ∙ ap low (sym i) ∙ sym o;
+            long = t .long ∙ ap length (sym i) ∙ sym p;
+          }
+
+-- the search begins, and goes on past an entry that is another
+pub seek-start : {count : ℕ} {lens highs lows : List ℕ} {n h l : ℕ} → Sought count lens highs lows n h l 0
+seek-start = record { most = omega arith; others = λ j i s. omega arith }
+
+module _ {count : ℕ} {lens highs lows : List ℕ} {n h l k : ℕ} where
+  pub seek-more : Sought count lens highs lows n h l k → k < count → (Same lens highs lows n h l k → ⊥) → Sought count lens highs lows n h l (k + 1)
+  seek-more s b o = record { most = omega arith; others = below-more _ _ (s .others) o }
+
+  -- the search stops at the entry, or at the end
+  pub finds : Sought count lens highs lows n h l k → (k < count → Same lens highs lows n h l k) → Finds count lens highs lows n h l k
+  unfolding eventNumber
+  finds s t =
+      record {
+        most = s .most;
+        number = λ es r e w p q o.
+            index-is (sameName e) es [] k (omega (arith, s .most, r .counted))
+            (λ j i. not-T (sameName e (getD es j [])) (λ u. s .others j i (name-same r j (omega (arith, s .most)) w p q o u)))
+            (λ i. same-name r k (omega (arith, r .counted)) w p q o (t (omega (arith, r .counted))));
+      }
+
+-- what looking the entry k up answers
+abbrev FindsEntry : ℕ → List ℕ → List ℕ → List ℕ → ℕ → ℕ → Type 0
+FindsEntry count lens highs lows k x = Finds count lens highs lows (getD lens k 0) (getD highs k 0) (getD lows k 0) x
+
+finds-entry : {es : List Name} {count : ℕ} {lens highs lows : List ℕ} {k x : ℕ} → NameRows es count lens highs lows → k < count
+    → FindsEntry count lens highs lows k x → x ≡ eventNumber es (getD es k [])
+finds-entry {es} {k = k} r b f = let t = entry r k b in f .number es r (getD es k []) (entry-name r k b) (t .long) (t .high) (t .low)
+
+-- the names before k are the first of their own
+pub record Firsts (count : ℕ) (lens highs lows : List ℕ) (k : ℕ) : Type 0 where
+  pub most : k ≤ count
+  pub own : (es : List Name) → NameRows es count lens highs lows → (j : ℕ) → j < k → eventNumber es (getD es j []) ≡ j
+
+-- a name that stands earlier too
+repeated : (es : List Name) (k : ℕ) → k < length es → (eventNumber es (getD es k []) ≡ k → ⊥) → false ≡ distinct es
+unfolding eventNumber
+repeated es k b o = sym (T-false (distinct es) (not-T (distinct es) twice))
+  where
+    twice : T (distinct es) → ⊥
+    twice t =
+        let e = getD es k [] in
+        let n = index (sameName e) es in
+        let u : T (exists (sameName e) es) = mem-named e es (getD-mem es k [] b) in
+        let p : e ≡ getD es n [] = same-eq e (getD es n []) (index-passes (sameName e) es [] u) in
+        let m : n ≤ k = index-first (sameName e) es k e (at-getD es k [] b) (same-refl e) in
+        let a : At es n e = subst (λ (x : Name). At es n x) (sym p) (at-getD es n [] (index-below (sameName e) es u)) in
+        distinct-once es t e (n, k, omega (arith, o), a, at-getD es k [] b)
+
+-- each name is the first of its own
+alone : (es : List Name) → ((k : ℕ) → k < length es → eventNumber es (getD es k []) ≡ k) → true ≡ distinct es
+unfolding eventNumber
+alone es o = go (dec (distinct es))
+  where
+    go : T (distinct es) ⊎ T (not (distinct es)) → true ≡ distinct es
+    go (inl t) = sym (T-true (distinct es) t)
+    go (inr t) =
+        let (e, (i, j, b, p, q)) = not-distinct es t in
+        let m : index (sameName e) es ≤ i = index-first (sameName e) es i e p (same-refl e) in
+        let n : eventNumber es (getD es j []) ≡ j = o j (at-below es j e q) in
+        let s : getD es j [] ≡ e = at-value es j e [] q in
+        absurd (omega (arith, rw s at n))
+
+pub firsts-start : {count : ℕ} {lens highs lows : List ℕ} → Firsts count lens highs lows 0
+firsts-start = record { most = omega arith; own = λ es r j i. absurd (omega arith) }
+
+module _ {count : ℕ} {lens highs lows : List ℕ} {k : ℕ} (f : Firsts count lens highs lows k) where
+  module _ (b : k < count) {x : ℕ} (g : FindsEntry count lens highs lows k x) where
+    pub firsts-more : x ≡ k → Firsts count lens highs lows (k + 1)
+    firsts-more e =
+        record {
+          most = omega arith;
+          own = λ es r. below-more (λ j. eventNumber es (getD es j []) ≡ j) k (f .own es r) (sym (finds-entry r b g) ∙ e);
+        }
+
+    pub firsts-stop : (x ≡ k → ⊥) → (es : List Name) → NameRows es count lens highs lows → false ≡ distinct es
+    firsts-stop e es r = repeated es k (omega (arith, r .counted)) (λ u. e (finds-entry r b g ∙ u))
+
+  pub firsts-end : count ≤ k → (es : List Name) → NameRows es count lens highs lows → true ≡ distinct es
+  firsts-end b es r = alone es (λ j i. f .own es r j (omega (arith, r .counted)))
+
+-- the rows that an events line gives
+pub events-rows : {n : ℕ} {es : List Name} {line : EventsLine} → Events n es line → NameRows es (line .count) (line .«len») (line .«high») (line .«low»)
+unfolding eventsRows
+events-rows e =
+    record {
+      counted = ap (λ (l : EventsLine). l .count) (e .rows);
+      most = e .most;
+      names = e .names;
+      lengths = ap (λ (l : EventsLine). l .«len») (e .rows);
+      high = ap (λ (l : EventsLine). l .«high») (e .rows);
+      low = ap (λ (l : EventsLine). l .«low») (e .rows);
+    }

@@ -1,0 +1,13 @@
+-- `both_below` is the test of its contract.
+use borrow.Author.Tests.{lt-ltb, le-ltb}
+use Rattle.reader.proofs.both_below.Statement.{statement}
+use Rattle.reader.proofs.both_below.Tie as tie
+
+returns : tie.Need-returns
+returns c = simp (lt-ltb _ _ (c .if1 .taken))
+
+returns-2 : tie.Need-returns-2
+returns-2 c = simp (le-ltb _ _ (c .if1 .left))
+
+pub both-below-spec : {M : Type 1} → statement M
+both-below-spec = tie.close (tie.spec returns returns-2)

@@ -1,0 +1,141 @@
+-- `reader::read` meets its contract. Each way out is a law of `Rest` or `Phases` at the lines read so far.
+use native.Mathlib.Omega.{arith}
+use mathlib.Core.Path.{_≡_, ap, sym, _∙_}
+use mathlib.Core.List.{[], _∷_}
+use denote.Ref.{now}
+use lib.ListN.{length}
+use borrow.Author.Needs.{needs}
+use borrow.Author.Tests.{not-true, not-false}
+use Rattle.model.specs.Cases.{tabled}
+use Rattle.model.specs.Reading.{got}
+use Rattle.model.specs.Form.{states, statesLine, eventsLine}
+use Rattle.model.specs.Text.{read}
+use Rattle.lines.specs.declared.EventsLine.{EventsLine}
+use Rattle.lines.specs.Lines.{eventsRows}
+use Rattle.lines.proofs.Found.{states-got, states-missing, GotEvents, events-got, events-missing}
+use Rattle.reader.specs.Sections.{Events, Rest, ReadsLines}
+use Rattle.reader.proofs.NameRows.{events-rows}
+use Rattle.reader.proofs.Rest.{too-long}
+use Rattle.reader.proofs.Phases.{states-fail, states-none, states-many, states-more, events-fail, events-many, events-twice, events-more, events-held}
+use Rattle.reader.proofs.Plans.{refusing}
+use Rattle.reader.proofs.read.Statement.{statement}
+use Rattle.reader.proofs.read.Tie as tie
+
+-- the states line was read
+opened : (c : tie.After-known-told) → statesLine (now (c .before .before .before .before .before .before .args .text)) 0 ≡ got (states (c .before .n .given .0 .0)) (c .before .n .given .0 .1 .0)
+opened c = states-got _ _ (c .before .before .before .read-states .ensures) (c .before .n .given .1)
+
+-- it is within its limits
+begun-text : (c : tie.Else3) → Rest (now (c .before .before .before .before .before .before .before .before .args .text)) (states (c .before .before .before .n .given .0 .0) ∷ []) (c .before .before .before .n .given .0 .1 .0) (read (now (c .before .before .before .before .before .before .before .before .args .text)))
+begun-text c = states-more _ (opened (c .before .before)) (c .before .before .before .before .before .before .if1 .left) (c .before .if2 .left) (c .if3 .left)
+
+-- the events line was read
+listed : (c : tie.Else4) → GotEvents (eventsLine (now (c .before .before .before .before .before .before .before .before .before .before .args .text)) (c .before .before .before .before .before .n .given .0 .1 .0)) (c .before .before .before .before .before .n .given .0 .1 .0) (c .before .read-events .result)
+listed c = events-got _ _ (c .before .read-events .ensures) (not-false _ (c .if4 .left))
+
+counted : (c : tie.Else4) → c .before .read-events .result .count ≡ length (listed c .names)
+unfolding eventsRows
+counted c = ap (λ (l : EventsLine). l .count) (listed c .rows)
+
+-- it has no more than its limit
+held : (c : tie.Else5) → Events (c .before .before .before .before .before .before .n .given .0 .0) (listed (c .before) .names) (c .before .before .read-events .result)
+held c = events-held _ (opened (c .before .before .before .before .before)) (listed (c .before)) (counted (c .before)) (c .if5 .left)
+
+refused-requires : tie.Need-refused-requires
+refused-requires c κs = search needs
+
+returns : tie.Need-returns
+unfolding tabled
+returns c = refusing _ (too-long _ (c .before .if1 .taken)) (c .refused .ensures)
+
+read-states-requires : tie.Need-read-states-requires
+read-states-requires c κs = search needs
+
+enum-known-n : tie.Need-enum-known-n
+enum-known-n c = search needs
+
+enum-told : tie.Need-enum-told
+enum-told c = search needs
+
+refused-requires-2 : tie.Need-refused-requires-2
+refused-requires-2 c κs = search needs
+
+returns-2 : tie.Need-returns-2
+unfolding tabled
+returns-2 c = refusing _ (states-fail _ (states-missing _ _ (c .before .before .before .read-states .ensures) (c .before .enum-told .given .1)) (c .before .before .before .before .if1 .left)) (c .refused2 .ensures)
+
+refused-requires-3 : tie.Need-refused-requires-3
+refused-requires-3 c κs = search needs
+
+returns-3 : tie.Need-returns-3
+unfolding tabled
+returns-3 c = refusing _ (states-none _ (opened (c .before .before)) (c .before .before .before .before .before .before .if1 .left) (c .before .if2 .taken)) (c .refused3 .ensures)
+
+refused-requires-4 : tie.Need-refused-requires-4
+refused-requires-4 c κs = search needs
+
+returns-4 : tie.Need-returns-4
+unfolding tabled
+returns-4 c = refusing _ (states-many _ (opened (c .before .before .before)) (c .before .before .before .before .before .before .before .if1 .left) (c .before .if3 .taken)) (c .refused4 .ensures)
+
+read-events-requires : tie.Need-read-events-requires
+read-events-requires c κs = search needs
+
+refused-requires-5 : tie.Need-refused-requires-5
+refused-requires-5 c κs = search needs
+
+returns-5 : tie.Need-returns-5
+unfolding tabled
+returns-5 c = refusing _ (events-fail (begun-text (c .before .before .before)) (events-missing _ _ (c .before .before .read-events .ensures) (not-true _ (c .before .if4 .taken)))) (c .refused5 .ensures)
+
+refused-requires-6 : tie.Need-refused-requires-6
+refused-requires-6 c κs = search needs
+
+returns-6 : tie.Need-returns-6
+unfolding tabled
+returns-6 c = refusing _ (events-many (begun-text (c .before .before .before .before)) (listed (c .before .before) .read) (omega (arith, counted (c .before .before), c .before .if5 .taken))) (c .refused6 .ensures)
+
+distinct-names-requires : tie.Need-distinct-names-requires
+distinct-names-requires c κs = search needs
+
+refused-requires-7 : tie.Need-refused-requires-7
+refused-requires-7 c κs = search needs
+
+returns-7 : tie.Need-returns-7
+unfolding tabled
+returns-7 c = refusing _ (events-twice (begun-text (c .before .before .before .before .before .before .before .before .before .before)) (listed (c .before .before .before .before .before .before .before .before) .read) (held (c .before .before .before .before .before .before .before) .most) (sym (c .before .before .distinct-names .ensures _ (events-rows (held (c .before .before .before .before .before .before .before)))) ∙ not-true _ (c .before .if6 .taken))) (c .refused7 .ensures)
+
+read-steps-and-machines-requires : tie.Need-read-steps-and-machines-requires
+read-steps-and-machines-requires c κs = search needs
+
+returns-8 : tie.Need-returns-8
+unfolding ReadsLines
+returns-8 c =
+    let a = c .read-steps-and-machines .ensures _ _ (held (c .before .before .before .before .before .before .before)) (events-more (begun-text (c .before .before .before .before .before .before .before .before .before .before)) (listed (c .before .before .before .before .before .before .before .before) .read) (held (c .before .before .before .before .before .before .before) .most) (sym (c .before .before .distinct-names .ensures _ (events-rows (held (c .before .before .before .before .before .before .before)))) ∙ not-false _ (c .before .if6 .left))) in
+    (a .verdict, a .rows)
+
+pub read-spec : {M : Type 1} → statement M
+read-spec =
+    tie.close
+    (tie.spec
+    refused-requires
+    returns
+    read-states-requires
+    enum-known-n
+    enum-told
+    refused-requires-2
+    returns-2
+    refused-requires-3
+    returns-3
+    refused-requires-4
+    returns-4
+    read-events-requires
+    refused-requires-5
+    returns-5
+    refused-requires-6
+    returns-6
+    distinct-names-requires
+    refused-requires-7
+    returns-7
+    read-steps-and-machines-requires
+    returns-8)

@@ -1,0 +1,109 @@
+-- `reader::read_machines` meets its contract. The invariant: the machine lines so far are read into the rows, and the rest comes to the same.
+use Prim.Native.Nat.{_-_, _<_}
+use native.Mathlib.Omega.{arith}
+use mathlib.Core.Path.{_≡_, sym, _∙_}
+use mathlib.Core.Bool.{true, _&&_}
+use denote.Ref.{now}
+use lib.Dec.{ltb, leb}
+use borrow.Author.Needs.{needs}
+use borrow.Author.Tests.{not-true, not-false}
+use Rattle.model.specs.Form.{machineLine}
+use Rattle.lines.proofs.Found.{GotMachine, machine-got, machine-missing}
+use Rattle.reader.proofs.Rest.{machine-moves}
+use lib.ListN.{length}
+use Rattle.reader.specs.Sections.{machineRows}
+use Rattle.reader.proofs.MachineSection.{SoFar, machines-start, within-both, section-none, section-end, section-malformed, section-limit, section-undeclared, section-room, section-more}
+use Rattle.reader.proofs.read_machines.Statement.{statement}
+use Rattle.reader.proofs.read_machines.Tie as tie
+
+abbrev Inv-loop : tie.InvT-loop
+Inv-loop s at n line place-count₀ doubled₀ place₀ k₀ i₀ place-count doubled place k i = SoFar s at n line (machineRows place-count₀ doubled₀ place₀) k i (machineRows place-count doubled place)
+
+abbrev μ-loop : tie.MeasureT-loop
+μ-loop s at n line place-count₀ doubled₀ place₀ k₀ i₀ place-count doubled place k i = length s - i
+
+-- the line that a turn has read
+found : (c : tie.Else1 Inv-loop μ-loop) → GotMachine (c .before .before .before .before .before .args .n) (machineLine (now (c .before .before .before .before .before .args .s)) (c .before .before .before .loop .i)) (c .before .read-machine .result)
+found c = machine-got _ _ _ (c .before .read-machine .ensures) (not-false _ (c .if1 .left))
+
+-- it is within the limits
+within : (c : tie.Else2 Inv-loop μ-loop) → (ltb (c .before .before .before .before .before .loop .k) 16 && leb (c .before .before .before .read-machine .result .places) 64) ≡ true
+within c = sym (c .before .within-limits .ensures) ∙ not-false _ (c .if2 .left)
+
+room : (c : tie.Else2 Inv-loop μ-loop) → c .before .before .before .before .before .loop .k < 16
+room c = within-both (c .before .before .before .before .before .loop .k) (c .before .before .before .read-machine .result .places) (within c) .0
+
+loop-holds : tie.Need-loop-holds Inv-loop μ-loop
+loop-holds c = machines-start (c .before .pre .0) (c .before .pre .1)
+
+add-here : tie.Need-add-here Inv-loop μ-loop
+add-here c = search needs
+
+read-machine-requires : tie.Need-read-machine-requires Inv-loop μ-loop
+read-machine-requires c κs = search needs
+
+returns : tie.Need-returns Inv-loop μ-loop
+returns c = section-malformed (c .before .before .before .loop .inv) (c .before .before .loop-test .taken) (machine-missing _ _ _ (c .before .read-machine .ensures) (not-true _ (c .if1 .taken)))
+
+within-limits-requires : tie.Need-within-limits-requires Inv-loop μ-loop
+within-limits-requires c κs = search needs
+
+returns-2 : tie.Need-returns-2 Inv-loop μ-loop
+returns-2 c = section-limit (c .before .before .before .before .before .loop .inv) (found (c .before .before)) (sym (c .before .within-limits .ensures) ∙ not-true _ (c .if2 .taken))
+
+returns-3 : tie.Need-returns-3 Inv-loop μ-loop
+returns-3 c = section-undeclared (c .before .before .before .before .before .before .loop .inv) (found (c .before .before .before)) (within (c .before)) (not-true _ (c .if3 .taken))
+
+mul-place-count : tie.Need-mul-place-count Inv-loop μ-loop
+mul-place-count c = search needs
+
+element-write-place-count : tie.Need-element-write-place-count Inv-loop μ-loop
+element-write-place-count c = omega (arith, room (c .before))
+
+mul-doubled : tie.Need-mul-doubled Inv-loop μ-loop
+mul-doubled c = search needs
+
+element-write-doubled : tie.Need-element-write-doubled Inv-loop μ-loop
+element-write-doubled c = omega (arith, room (c .before))
+
+put-row-requires : tie.Need-put-row-requires Inv-loop μ-loop
+put-row-requires c κs = section-room (c .before .before .before .before .before .before .before .before .before .loop .inv) (found (c .before .before .before .before .before .before)) (within (c .before .before .before .before)) (not-false _ (c .before .before .before .if3 .left))
+
+add-k : tie.Need-add-k Inv-loop μ-loop
+add-k c = search needs
+
+loop-less : tie.Need-loop-less Inv-loop μ-loop
+loop-less c = omega (arith, machine-moves _ _ (found (c .before .before .before .before .before .before .before) .read))
+
+loop-again : tie.Need-loop-again Inv-loop μ-loop
+loop-again c = section-more (c .before .before .before .before .before .before .before .before .before .before .loop .inv) (found (c .before .before .before .before .before .before .before)) (within (c .before .before .before .before .before)) (not-false _ (c .before .before .before .before .if3 .left)) (c .put-row .ensures)
+
+returns-4 : tie.Need-returns-4 Inv-loop μ-loop
+returns-4 c = section-none (c .before .before .loop .inv) (c .before .loop-test .left) (c .if4 .taken)
+
+returns-5 : tie.Need-returns-5 Inv-loop μ-loop
+returns-5 c = section-end (c .before .before .loop .inv) (c .before .loop-test .left) (c .if4 .left)
+
+pub read-machines-spec : {M : Type 1} → statement M
+read-machines-spec =
+    tie.close
+    (tie.spec
+    Inv-loop
+    μ-loop
+    loop-holds
+    add-here
+    read-machine-requires
+    returns
+    within-limits-requires
+    returns-2
+    returns-3
+    mul-place-count
+    element-write-place-count
+    mul-doubled
+    element-write-doubled
+    put-row-requires
+    add-k
+    loop-less
+    loop-again
+    returns-4
+    returns-5)

@@ -1,0 +1,344 @@
+// Reads a text into rows of numbers, or refuses it by 1, 2 or 3.
+ghost use mathlib.Core.Path.{_≡_};
+ghost use mathlib.Core.Bool.{_&&_};
+ghost use mathlib.Core.List.{List};
+ghost use mathlib.Core.Option.{some};
+ghost use Prim.Native.Nat.{_*_, _<_, _≤_};
+ghost use lib.Dec.{leb, ltb};
+ghost use lib.ListN.{length};
+ghost use lib.Seq.{sets};
+ghost use Rattle.model.specs.Refusal.{refusalOf};
+ghost use Rattle.model.specs.Cases.{tabled};
+ghost use Rattle.model.specs.Bytes.{Name};
+ghost use Rattle.model.specs.Text as Text;
+ghost use Rattle.reader.specs.Plan.{verdictRefusal, planOf, noPlan};
+ghost use Rattle.reader.specs.Sections.{NameRows, Finds, countOf, ReadsSteps, transitionRows, ReadsMachines, machineRows, ReadsLines};
+use lexer::Word;
+use lines::EventsLine;
+use lines::NO_STATE;
+use lines::StepLine;
+use lines::UNPLACED;
+use lines::read_events;
+use lines::read_machine;
+use lines::read_states;
+use lines::read_step;
+use model::Refusal;
+
+pub enum Verdict {
+    Refused(Refusal),
+    Passed,
+}
+
+// What a text holds, in rows. Document 01: a plan and its split.
+pub struct Plan {
+    pub states: usize,
+    pub initial: usize,
+    // for each event the position of its name in the text, and the name's length
+    pub events: usize,
+    pub name_at: [usize; 64],
+    pub name_len: [usize; 64],
+    // for each transition, in the order of the lines
+    pub transitions: usize,
+    pub source: [u8; 1024],
+    pub event: [u8; 1024],
+    pub target: [u8; 1024],
+    // for each machine how many places it has, and the lowest state that it lists twice or NO_STATE
+    pub machines: usize,
+    pub place_count: [usize; 16],
+    pub doubled: [usize; 16],
+    // at m * 256 + x the place of state x in machine m, or UNPLACED
+    pub place: [u8; 4096],
+}
+
+pub struct Reading {
+    pub verdict: Verdict,
+    pub plan: Plan,
+}
+
+// Lines of one kind: how many were read and the position after them, or the refusal of the next.
+enum Section {
+    Refused(Refusal),
+    Read { count: usize, next: usize },
+}
+
+fn refused(why: Refusal) -> Reading
+    ensures { λ r. ⌜ verdictRefusal (r .verdict) ≡ some (tabled why) ⌝ }
+    ensures { λ r. ⌜ r .plan ≡ noPlan ⌝ }
+{
+    Reading {
+        verdict: Verdict::Refused(why),
+        plan: Plan {
+            states: 0,
+            initial: 0,
+            events: 0,
+            name_at: [0usize; 64],
+            name_len: [0usize; 64],
+            transitions: 0,
+            source: [0u8; 1024],
+            event: [0u8; 1024],
+            target: [0u8; 1024],
+            machines: 0,
+            place_count: [0usize; 16],
+            doubled: [NO_STATE; 16],
+            place: [UNPLACED; 4096],
+        },
+    }
+}
+
+// The first of the names with this length and these bytes; their count if there is none.
+fn find_name<'a>(
+    len: &'a [usize; 64],
+    high: &'a [u64; 64],
+    low: &'a [u64; 64],
+    count: usize,
+    n: usize,
+    h: u64,
+    l: u64,
+) -> usize
+    requires { ⌜ count ≤ 64 ⌝ }
+    ensures { λ r. ⌜ Finds count (now («len» .entry)) (now («high» .entry)) (now («low» .entry)) n h l r ⌝ }
+{
+    let mut k = 0;
+    while k < count {
+        if high[k] == h {
+            if low[k] == l {
+                if len[k] == n {
+                    return k;
+                }
+            }
+        }
+        k += 1;
+    }
+    k
+}
+
+// No name is the same as an earlier one.
+fn distinct_names<'a>(
+    len: &'a [usize; 64],
+    high: &'a [u64; 64],
+    low: &'a [u64; 64],
+    count: usize,
+) -> bool
+    requires { ⌜ count ≤ 64 ⌝ }
+    ensures { λ r. ⌜ ((es : List Name) → NameRows es count (now («len» .entry)) (now («high» .entry)) (now («low» .entry)) → r ≡ Text.distinct es) ⌝ }
+{
+    let mut k = 0;
+    while k < count {
+        if find_name(len, high, low, count, len[k], high[k], low[k]) != k {
+            return false;
+        }
+        k += 1;
+    }
+    true
+}
+
+fn narrow(x: usize) -> u8
+    requires { ⌜ x < 256 ⌝ }
+    ensures { λ r. ⌜ r ≡ x ⌝ }
+{
+    x as u8
+}
+
+fn both_below(a: usize, b: usize, n: usize) -> bool
+    ensures { λ r. ⌜ r ≡ (ltb a n && ltb b n) ⌝ }
+{
+    if a < n {
+        return b < n;
+    }
+    false
+}
+
+// The step lines at a position, against n states and the names of an events line.
+fn read_transitions(
+    s: &[u8],
+    at: usize,
+    n: usize,
+    names: EventsLine,
+    source: &mut [u8; 1024],
+    event: &mut [u8; 1024],
+    target: &mut [u8; 1024],
+) -> Section
+    requires { ⌜ (n ≤ 256) × (names .count ≤ 64) ⌝ }
+    ensures { λ r. ⌜ countOf r ≤ 1024 ⌝ }
+    ensures { λ r. ⌜ ReadsSteps (now (s .entry)) at n names r (transitionRows (now (source .entry)) (now (event .entry)) (now (target .entry))) (transitionRows (now (source .exit)) (now (event .exit)) (now (target .exit))) ⌝ }
+{
+    let count = names.count;
+    let mut k = 0;
+    let mut i = at;
+    loop {
+        let StepLine::Found {
+            source: a,
+            len,
+            high,
+            low,
+            target: b,
+            next,
+        } = read_step(s, i)
+        else {
+            return Section::Read { count: k, next: i };
+        };
+        let line = 3 + k;
+        if 1024 <= k {
+            return Section::Refused(Refusal::LimitExceeded { line });
+        }
+        if !both_below(a, b, n) {
+            return Section::Refused(Refusal::Undeclared { line });
+        }
+        let e = find_name(&names.len, &names.high, &names.low, count, len, high, low);
+        if count <= e {
+            return Section::Refused(Refusal::Undeclared { line });
+        }
+        source[k] = narrow(a);
+        event[k] = narrow(e);
+        target[k] = narrow(b);
+        k += 1;
+        i = next;
+    }
+}
+
+// A machine's row into the table of all.
+fn put_row(row: &[u8; 256], table: &mut [u8; 4096], k: usize)
+    requires { ⌜ (k < 16) × (length (now row) ≡ 256) ⌝ }
+    ensures { λ _. ⌜ now (table .exit) ≡ sets (now (table .entry)) (k * 256) (now (row .entry)) ⌝ }
+{
+    let from = k * 256;
+    let mut x = 0;
+    while x < 256 {
+        table[from + x] = row[x];
+        x += 1;
+    }
+}
+
+// Machine k, with so many places, is within the limits.
+fn within_limits(k: usize, places: usize) -> bool
+    ensures { λ r. ⌜ r ≡ (ltb k 16 && leb places 64) ⌝ }
+{
+    if k < 16 {
+        return places <= 64;
+    }
+    false
+}
+
+// The machine lines at a position, which is on the given line, to the end of the text.
+fn read_machines(
+    s: &[u8],
+    at: usize,
+    n: usize,
+    line: usize,
+    place_count: &mut [usize; 16],
+    doubled: &mut [usize; 16],
+    place: &mut [u8; 4096],
+) -> Section
+    requires { ⌜ (n ≤ 256) × (line < 4096) ⌝ }
+    ensures { λ r. ⌜ ReadsMachines (now (s .entry)) at n line r (machineRows (now («place_count» .entry)) (now (doubled .entry)) (now (place .entry))) (machineRows (now («place_count» .exit)) (now (doubled .exit)) (now (place .exit))) ⌝ }
+{
+    let mut k = 0;
+    let mut i = at;
+    while i < s.len() {
+        let here = line + k;
+        let m = read_machine(s, i, n);
+        if !m.formed {
+            return Section::Refused(Refusal::Malformed { line: here });
+        }
+        if !within_limits(k, m.places) {
+            return Section::Refused(Refusal::LimitExceeded { line: here });
+        }
+        if !m.declared {
+            return Section::Refused(Refusal::Undeclared { line: here });
+        }
+        place_count[k] = m.places;
+        doubled[k] = m.doubled;
+        put_row(&m.row, place, k);
+        k += 1;
+        i = m.next;
+    }
+    if k == 0 {
+        return Section::Refused(Refusal::LimitExceeded { line });
+    }
+    Section::Read { count: k, next: i }
+}
+
+// The lines after the events line.
+fn read_steps_and_machines(s: &[u8], n: usize, names: EventsLine) -> Reading
+    requires { ⌜ (n ≤ 256) × (names .count ≤ 64) ⌝ }
+    ensures { λ r. ⌜ ReadsLines (now (s .entry)) n names r ⌝ }
+{
+    let mut source = [0u8; 1024];
+    let mut event = [0u8; 1024];
+    let mut target = [0u8; 1024];
+    let at = names.next;
+    match read_transitions(s, at, n, names, &mut source, &mut event, &mut target) {
+        Section::Refused(why) => refused(why),
+        Section::Read { count: k, next } => {
+            let mut place_count = [0usize; 16];
+            let mut doubled = [NO_STATE; 16];
+            let mut place = [UNPLACED; 4096];
+            match read_machines(
+                s,
+                next,
+                n,
+                3 + k,
+                &mut place_count,
+                &mut doubled,
+                &mut place,
+            ) {
+                Section::Refused(why) => refused(why),
+                Section::Read { count: j, next: _ } => {
+                    let events = names.count;
+                    let name_at = names.at;
+                    let name_len = names.len;
+                    Reading {
+                        verdict: Verdict::Passed,
+                        plan: Plan {
+                            states: n,
+                            initial: 0,
+                            events,
+                            name_at,
+                            name_len,
+                            transitions: k,
+                            source,
+                            event,
+                            target,
+                            machines: j,
+                            place_count,
+                            doubled,
+                            place,
+                        },
+                    }
+                }
+            }
+        }
+    }
+}
+
+// The text's rows, or its refusal by 1, 2 or 3.
+pub fn read(text: &[u8]) -> Reading
+    ensures { λ r. ⌜ verdictRefusal (r .verdict) ≡ refusalOf (Text.read (now (text .entry))) ⌝ }
+    ensures { λ r. ⌜ r .plan ≡ planOf (Text.read (now (text .entry))) ⌝ }
+{
+    if 32768 < text.len() {
+        return refused(Refusal::LimitExceeded { line: 0 });
+    }
+    let Word::Found { value: n, next } = read_states(text, 0) else {
+        return refused(Refusal::Malformed { line: 1 });
+    };
+    if n < 1 {
+        return refused(Refusal::LimitExceeded { line: 1 });
+    }
+    if 256 < n {
+        return refused(Refusal::LimitExceeded { line: 1 });
+    }
+    let names = read_events(text, next);
+    let formed = names.formed;
+    let count = names.count;
+    if !formed {
+        return refused(Refusal::Malformed { line: 2 });
+    }
+    if 64 < count {
+        return refused(Refusal::LimitExceeded { line: 2 });
+    }
+    if !distinct_names(&names.len, &names.high, &names.low, count) {
+        return refused(Refusal::Undeclared { line: 2 });
+    }
+    read_steps_and_machines(text, n, names)
+}
