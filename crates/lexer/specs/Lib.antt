@@ -1,1 +1,2 @@
+-- what the readers of words answer
 pub mod Words

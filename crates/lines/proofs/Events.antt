@@ -15,7 +15,8 @@ use Rattle.lexer.specs.Words.{high, low}
 use Rattle.lexer.proofs.Answers.{GotName}
 use Rattle.lexer.proofs.Loops.{Items, items-none, items-more, items-end}
 use Rattle.lexer.proofs.Moves.{moves-spaced-name, spaced-name-step}
-use Rattle.lines.specs.Lines.{row, spots, namesFrom, eventsRows, noEvents, asEvents}
+use Rattle.lines.specs.Rows.{row, spots}
+use Rattle.lines.specs.Lines.{namesFrom, eventsRows, noEvents, asEvents}
 use Rattle.lines.specs.Marking.{asNames, Long}
 use Rattle.lines.specs.declared.Names.{Names}
 

@@ -1,5 +1,5 @@
 -- How a machine's row is filled, state by state, and what it then tells: of each state its place, and the lowest state that is listed twice.
-use Prim.Native.Nat.{ℕ, zero, suc, _+_, _<_, _≤_}
+use Prim.Native.Nat.{ℕ, suc, _+_, _<_, _≤_}
 use native.Mathlib.Omega.{arith}
 use mathlib.Core.Path.{_≡_, refl, ap, sym, _∙_}
 use mathlib.Core.Logic.{_⊎_, inl, inr}
@@ -7,13 +7,15 @@ use mathlib.Core.Bool.{Bool, true, false, not, cond, _&&_, _||_, and-true, and-f
 use mathlib.Core.List.{List, [], _∷_, _++_, flatten}
 use borrow.Author.Tests.{lt-ltb, le-ltb, eq-eqb, ne-eqb, eqb-false}
 use lib.Dec.{T, leb, ltb, eqb, leb→le, ltb→lt, nltb→le, eqb→eq}
-use lib.ListN.{length, getD, set, length-append, length-set, List·getD-append}
-use lib.Seq.{getD-set-same, getD-set-other, getD-at, ext-getD}
+use lib.ListN.{length, getD, set, length-set}
+use lib.Seq.{getD-set-same, getD-set-other, ext-getD}
 use Rattle.model.specs.Lists.{every, exists, index, elem, count, lowest}
 use Rattle.model.specs.Machine.{Place, placeIn}
-use Rattle.model.proofs.Laws.{dec, order, T-true, T-false, and-l, and-r, below-suc, Lowest, found, absent, lowest-view}
-use Rattle.lines.specs.Lines.{allBelow, withinLimits, orNoState, doubledMark, tabulate, placeMark, placeRow}
+use Rattle.model.proofs.Laws.{dec, order, T-true, T-false, and-l, and-r, Lowest, found, absent, lowest-view}
+use Rattle.lines.specs.Rows.{orNoState, placeMark, placeRow}
+use Rattle.lines.specs.Lines.{allBelow, withinLimits, duplicateMark}
 use Rattle.lines.specs.Marking.{Marking, marked, markedAll, markedPlaces, upTo64}
+use Rattle.lines.proofs.Rows.{length-placeRow, getD-placeRow}
 
 -- two numbers are one or not
 eqb-case : {C : Type 0} (x y : ℕ) → (y ≡ x → eqb y x ≡ true → C) → ((y ≡ x → ⊥) → eqb y x ≡ false → C) → C
@@ -25,25 +27,25 @@ eqb-case {C} x y f g = go (dec (eqb y x))
 
 -- one state
 module _ (n p : ℕ) (m : Marking) (x : ℕ) where
-  pub marked-out : n ≤ x → marked n p m x ≡ record { declared = false; doubled = m .doubled; row = m .row }
+  pub marked-out : n ≤ x → marked n p m x ≡ record { declared = false; duplicate = m .duplicate; row = m .row }
   unfolding marked
   marked-out h = rw (le-ltb x n h)
 
   module _ (h : x < n) where
-    pub marked-fresh : getD (m .row) x 0 ≡ 255 → marked n p m x ≡ record { declared = m .declared; doubled = m .doubled; row = set (m .row) x p }
+    pub marked-fresh : getD (m .row) x 0 ≡ 255 → marked n p m x ≡ record { declared = m .declared; duplicate = m .duplicate; row = set (m .row) x p }
     unfolding marked
     marked-fresh e = rw (lt-ltb x n h, eq-eqb (getD (m .row) x 0) 255 e)
 
     marked-again : (getD (m .row) x 0 ≡ 255 → ⊥)
-        → marked n p m x ≡ record { declared = m .declared; doubled = cond (ltb x (m .doubled)) x (m .doubled); row = m .row }
+        → marked n p m x ≡ record { declared = m .declared; duplicate = cond (ltb x (m .duplicate)) x (m .duplicate); row = m .row }
     unfolding marked
     marked-again e = rw (lt-ltb x n h, ne-eqb (getD (m .row) x 0) 255 e)
 
-    pub marked-lower : (getD (m .row) x 0 ≡ 255 → ⊥) → x < m .doubled → marked n p m x ≡ record { declared = m .declared; doubled = x; row = m .row }
-    marked-lower e l = rw (marked-again e, lt-ltb x (m .doubled) l)
+    pub marked-lower : (getD (m .row) x 0 ≡ 255 → ⊥) → x < m .duplicate → marked n p m x ≡ record { declared = m .declared; duplicate = x; row = m .row }
+    marked-lower e l = rw (marked-again e, lt-ltb x (m .duplicate) l)
 
-    pub marked-same : (getD (m .row) x 0 ≡ 255 → ⊥) → m .doubled ≤ x → marked n p m x ≡ m
-    marked-same e l = rw (marked-again e, le-ltb x (m .doubled) l)
+    pub marked-same : (getD (m .row) x 0 ≡ 255 → ⊥) → m .duplicate ≤ x → marked n p m x ≡ m
+    marked-same e l = rw (marked-again e, le-ltb x (m .duplicate) l)
 
 -- the number of a place
 pub own-number : (k : ℕ) → k < 64 → upTo64 k ≡ k
@@ -115,7 +117,7 @@ markFrom k ps y = cond (elem y (flatten ps)) (k + placeIn ps y) 255
 record Filled (n p k : ℕ) (m : Marking) (xs : List ℕ) (ps : List Place) (e : Marking) : Type 0 where
   size : length (e .row) ≡ length (m .row)
   entry : (y : ℕ) → getD (e .row) y 0 ≡ kept (getD (m .row) y 0) (cond (elem y xs) p (markFrom k ps y))
-  low : Low n (m .doubled) (times (m .row) (xs ++ flatten ps)) (e .doubled)
+  low : Low n (m .duplicate) (times (m .row) (xs ++ flatten ps)) (e .duplicate)
 
 -- a state x whose entry is free takes it: what the states after it find is what x and they find
 module _ (row : List ℕ) (p x : ℕ) (h : x < length row) (f : getD row x 0 ≡ 255) (q : p ≡ 255 → ⊥) (y : ℕ) where
@@ -215,7 +217,7 @@ module _ (n p k : ℕ) (m : Marking) (x : ℕ) (xs : List ℕ) (ps : List Place)
 
       fresh : getD (m .row) x 0 ≡ 255 → Filled n p k m (x ∷ xs) ps e
       fresh f =
-          let r′ : Fills n p k (record { declared = m .declared; doubled = m .doubled; row = set (m .row) x p }) xs ps e = rw (marked-fresh n p m x h f) at r in
+          let r′ : Fills n p k (record { declared = m .declared; duplicate = m .duplicate; row = set (m .row) x p }) xs ps e = rw (marked-fresh n p m x h f) at r in
           let w = r′ (record { below = others; others = i .others; few = i .few; number = i .number; long = simp length-set (i .long) }) in
           let once : (y : ℕ) → times (set (m .row) x p) (xs ++ flatten ps) y ≡ times (m .row) (x ∷ (xs ++ flatten ps)) y =
           λ y. fresh-count (m .row) p x (omega (arith, h)) f (λ z. omega arith) y (xs ++ flatten ps) in
@@ -229,13 +231,13 @@ module _ (n p k : ℕ) (m : Marking) (x : ℕ) (xs : List ℕ) (ps : List Place)
 
       again : (getD (m .row) x 0 ≡ 255 → ⊥) → Filled n p k m (x ∷ xs) ps e
       again f =
-          let r′ : Fills n p k (record { declared = m .declared; doubled = cond (ltb x (m .doubled)) x (m .doubled); row = m .row }) xs ps e =
+          let r′ : Fills n p k (record { declared = m .declared; duplicate = cond (ltb x (m .duplicate)) x (m .duplicate); row = m .row }) xs ps e =
           rw (marked-again n p m x h f) at r in
           let w = r′ (record { below = others; others = i .others; few = i .few; number = i .number; long = i .long }) in
           record {
             size = w .size;
             entry = λ y. w .entry y ∙ again-entry (m .row) p x f y xs (markFrom k ps y);
-            low = again-low (m .row) x f (xs ++ flatten ps) h (lower x (m .doubled)) (w .low);
+            low = again-low (m .row) x f (xs ++ flatten ps) h (lower x (m .duplicate)) (w .low);
           }
 
 -- the next place
@@ -292,21 +294,6 @@ filled n ps k m =
     (λ p k m x xs ps. fills-one n p k m x xs ps (rest n p k (marked n p m x) xs ps)) (fills-end n)
     (λ p k m ys ps. fills-turn n p k m ys ps (rest n (upTo64 k) (suc k) m ys ps)) ps 0 k m
 
--- the values of a function
-length-tabulate : (f : ℕ → ℕ) (n : ℕ) → length (tabulate f n) ≡ n
-unfolding tabulate
-length-tabulate f zero = refl
-length-tabulate f (suc n) = omega (arith, length-append (tabulate f n) (f n ∷ []), length-tabulate f n)
-
-getD-tabulate : (f : ℕ → ℕ) (n y : ℕ) → y < n → getD (tabulate f n) y 0 ≡ f y
-unfolding tabulate
-getD-tabulate f zero y h = absurd (omega arith)
-getD-tabulate f (suc n) y h = go (below-suc y n h) (getD-tabulate f n y)
-  where
-    go : (y < n) ⊎ (y ≡ n) → (y < n → getD (tabulate f n) y 0 ≡ f y) → getD (tabulate f n ++ (f n ∷ [])) y 0 ≡ f y
-    go (inl l) ih = List·getD-append (tabulate f n) (f n ∷ []) 0 y (omega (arith, length-tabulate f n)) ∙ ih l
-    go (inr e) ih = rw e (getD-at (tabulate f n) (f n) [] 0 n (length-tabulate f n))
-
 -- the lowest number that is listed twice
 low-lowest : {n d e : ℕ} {c : ℕ → ℕ} (l : List ℕ) → Low n d c e → d ≡ 256 → n ≤ 256 → ((y : ℕ) → y < n → c y ≡ count (eqb y) l)
     → e ≡ orNoState (lowest (λ y. ltb 1 (count (eqb y) l)) n)
@@ -327,20 +314,20 @@ low-lowest {n} {d} {e} {c} l low top h s = go (lowest-view (λ y. ltb 1 (count (
     go (absent q f) (inr z) = absurd (omega (arith, s e (z .0), nltb→le 1 (count (eqb e) l) (f e (z .0))))
 
 -- a marking by its parts
-told : (e : Marking) {d : Bool} {k : ℕ} {r : List ℕ} → e .declared ≡ d → e .doubled ≡ k → e .row ≡ r → e ≡ record { declared = d; doubled = k; row = r }
+told : (e : Marking) {d : Bool} {k : ℕ} {r : List ℕ} → e .declared ≡ d → e .duplicate ≡ k → e .row ≡ r → e ≡ record { declared = d; duplicate = k; row = r }
 told e p q r = rw (← p, ← q, ← r)
 
 -- a row in which each state is unplaced, and nothing is known of any
 pub record Unmarked (m : Marking) : Type 0 where
   pub declared : m .declared ≡ true
-  pub doubled : m .doubled ≡ 256
+  pub duplicate : m .duplicate ≡ 256
   pub long : length (m .row) ≡ 256
   pub free : (y : ℕ) → y < 256 → getD (m .row) y 0 ≡ 255
 
 -- places within their limits
 module _ (n : ℕ) (ps : List Place) (h : n ≤ 256) (within : withinLimits n ps ≡ true) where
-  pub filled-places : {m : Marking} → Unmarked m → markedPlaces n 0 m ps ≡ record { declared = true; doubled = doubledMark n ps; row = placeRow ps }
-  unfolding withinLimits doubledMark placeRow placeMark every elem exists
+  pub filled-places : {m : Marking} → Unmarked m → markedPlaces n 0 m ps ≡ record { declared = true; duplicate = duplicateMark n ps; row = placeRow ps }
+  unfolding withinLimits duplicateMark placeMark every elem exists
   filled-places {m} u =
       let fits : T (leb (length ps) 64 && allBelow n ps) = rw within tt in
       let all = and-r (leb (length ps) 64) (allBelow n ps) fits in
@@ -348,8 +335,8 @@ module _ (n : ℕ) (ps : List Place) (h : n ≤ 256) (within : withinLimits n ps
       let w = filled n ps 0 m (record { below = tt; others = all; few = omega arith; number = omega arith; long = omega arith }) in
       told (markedPlaces n 0 m ps)
       (declared-places n 0 m ps ∙ rw (u .declared) (T-true (allBelow n ps) all))
-      (low-lowest (flatten ps) (w .low) (u .doubled) h (λ y l. rw (u .free y (omega arith)) (omega arith)))
-      (ext-getD 0 _ _ (w .size ∙ u .long ∙ sym (length-tabulate (placeMark ps) 256)) λ y l.
+      (low-lowest (flatten ps) (w .low) (u .duplicate) h (λ y l. rw (u .free y (omega arith)) (omega arith)))
+      (ext-getD 0 _ _ (w .size ∙ u .long ∙ sym (length-placeRow ps)) λ y l.
       let below : y < 256 = omega (arith, w .size) in
       let own : 0 + placeIn ps y ≡ placeIn ps y = omega arith in
-      w .entry y ∙ rw (u .free y below, own) (sym (getD-tabulate (placeMark ps) 256 y below)))
+      w .entry y ∙ rw (u .free y below, own) (sym (getD-placeRow ps y 0 below)))

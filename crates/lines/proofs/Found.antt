@@ -16,8 +16,10 @@ use Rattle.lexer.specs.declared.Word.{Word}
 use Rattle.lexer.specs.declared.Word.the-variants.{Missing, Found}
 use Rattle.lexer.specs.Words.{high, low}
 use Rattle.lexer.proofs.Moves.{spaced-name-sound}
-use Rattle.lines.specs.Lines.{asStates, namesFrom, eventsRows, noEvents, asEvents, asStep, placeRow, doubledMark, allBelow, withinLimits, withoutRow, noMachine, machineRow, asMachine}
+use Rattle.lines.specs.Rows.{placeRow}
+use Rattle.lines.specs.Lines.{asStates, namesFrom, eventsRows, noEvents, asEvents, asStep, duplicateMark, allBelow, withinLimits, withoutRow, noMachine, machineRow, asMachine}
 use Rattle.lines.specs.declared.EventsLine.{EventsLine}
+use Rattle.lines.specs.declared.StepWords.{StepWords}
 use Rattle.lines.specs.declared.StepLine.{StepLine}
 use Rattle.lines.specs.declared.StepLine.the-variants as S
 use Rattle.lines.specs.declared.MachineLine.{MachineLine}
@@ -99,24 +101,22 @@ module _ (s : List ℕ) (at : ℕ) {r : Word} (p : r ≡ asStates (statesLine s 
       absurd (omega arith)
 
 -- the event's name is told by its length and its two numbers
-pub record GotStep (o : Parsed Line) (a l h w b next : ℕ) : Type 0 where
+pub record GotStep (o : Parsed Line) (w : StepWords) : Type 0 where
   pub name : Name
-  pub read : o ≡ got (step a name b) next
+  pub read : o ≡ got (step (w .source) name (w .target)) (w .next)
   pub is-name : IsName name
-  pub long : l ≡ length name
-  pub high-is : h ≡ high name
-  pub low-is : w ≡ low name
+  pub long : w .«len» ≡ length name
+  pub high-is : w .«high» ≡ high name
+  pub low-is : w .«low» ≡ low name
 
 module _ (s : List ℕ) (at : ℕ) {r : StepLine} (p : r ≡ asStep (stepLine s at)) where
-  pub step-got : {a l h w b next : ℕ} → r ≡ S.Found a l h w b next → GotStep (stepLine s at) a l h w b next
+  pub step-got : {w : StepWords} → r ≡ S.Found w → GotStep (stepLine s at) w
   unfolding asStep
-  step-got {a} {l} {h} {w} {b} {next} q =
+  step-got {w} q =
       which (step-only s at) (λ e. let f = ap asStep e in let z : _≡_ {A = ℕ} 0 1 = cc in absurd (omega arith)) λ (x, e, y) k g i.
       let f = ap asStep g in
-      let m : x ≡ a = cc in
-      let n : y ≡ b = cc in
-      let o : k ≡ next = cc in
-      record { name = e; read = cc; is-name = i; long = cc; high-is = cc; low-is = cc }
+      let z : _≡_ {A = StepWords} (record { source = x; «len» = length e; «high» = high e; «low» = low e; target = y; next = k }) w = cc in
+      subst (GotStep (stepLine s at)) z (record { name = e; read = g; is-name = i; long = refl; high-is = refl; low-is = refl })
 
   pub step-missing : r ≡ S.Missing → stepLine s at ≡ fail
   unfolding asStep
@@ -153,7 +153,7 @@ pub record GotMachine (n : ℕ) (o : Parsed Line) (r : MachineLine) : Type 0 whe
   pub counted : r .places ≡ length listed
   pub all-declared : r .declared ≡ allBelow n listed
   -- within its limits
-  pub doubled-is : length listed ≤ 64 → allBelow n listed ≡ true → r .doubled ≡ doubledMark n listed
+  pub duplicate-is : length listed ≤ 64 → allBelow n listed ≡ true → r .duplicate ≡ duplicateMark n listed
   pub row-is : length listed ≤ 64 → allBelow n listed ≡ true → r .row ≡ placeRow listed
 
 module _ (n : ℕ) (ps : List Place) (k : ℕ) {o : Parsed Line} (e : o ≡ got (machine ps) k) where
@@ -167,7 +167,7 @@ module _ (n : ℕ) (ps : List Place) (k : ℕ) {o : Parsed Line} (e : o ≡ got 
         formed-is = refl;
         counted = refl;
         all-declared = sym (and-eq-true-iff (leb (length ps) 64) (allBelow n ps) .0 h .1);
-        doubled-is = λ _ _. refl;
+        duplicate-is = λ _ _. refl;
         row-is = λ _ _. refl;
       }
   by-limits false h =
@@ -178,7 +178,7 @@ module _ (n : ℕ) (ps : List Place) (k : ℕ) {o : Parsed Line} (e : o ≡ got 
         formed-is = refl;
         counted = refl;
         all-declared = refl;
-        doubled-is = λ l a. absurd (out l a);
+        duplicate-is = λ l a. absurd (out l a);
         row-is = λ l a. absurd (out l a);
       }
 

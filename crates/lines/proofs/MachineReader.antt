@@ -1,10 +1,9 @@
 -- The reader of a machine line, by all its places, and the answer to it by how they were marked.
-use Prim.Native.Nat.{ℕ, _<_, _≤_}
+use Prim.Native.Nat.{ℕ, _≤_}
 use native.Mathlib.Omega.{arith}
 use mathlib.Core.Path.{_≡_, refl, ap, sym, _∙_}
-use mathlib.Core.Bool.{Bool, true, false, not, _&&_, and-false}
+use mathlib.Core.Bool.{Bool, true, false, _&&_, and-eq-true-iff}
 use mathlib.Core.List.{List, [], _∷_}
-use borrow.Author.Tests.{le-leb, lt-leb, not-true, not-false}
 use lib.Dec.{eqb, leb, eqb→eq}
 use lib.ListN.{length, drop}
 use Rattle.model.specs.Machine.{Place}
@@ -129,31 +128,24 @@ module _ {n : ℕ} {s : List ℕ} {at count : ℕ} {marks : Marks} {row : List �
   formed : machineLine s at ≡ got (machine all) next
   formed = closed (l .places) (l .some) (l .read)
 
-  -- past the limits
-  past : withinLimits n all ≡ false → {r : MachineLine} {d : Bool} → d ≡ allBelow n all → r ≡ withoutRow true count d next
-      → r ≡ asMachine n (machineLine s at)
+  -- the code's test is the definition's
+  limits : (leb count 64 && marks .declared) ≡ withinLimits n all
+  unfolding withinLimits
+  limits = λ i. leb (counted i) 64 && declares (l .places) i
+
+  pub past : (leb count 64 && marks .declared) ≡ false → {r : MachineLine} → r ≡ withoutRow true count (marks .declared) next → r ≡ asMachine n (machineLine s at)
   unfolding asMachine
-  past w b q = rw (formed, w, ← b, ← counted) q
+  past w q = rw (formed, sym limits ∙ w, ← declares (l .places), ← counted) q
 
-  pub too-many : 64 < count → {r : MachineLine} → r ≡ withoutRow true count (marks .declared) next → r ≡ asMachine n (machineLine s at)
-  unfolding withinLimits
-  too-many g q = past (rw (lt-leb (length all) 64 (omega (arith, counted)))) (declares (l .places)) q
-
-  pub undeclared : not (marks .declared) ≡ true → {r : MachineLine} → r ≡ withoutRow true count false next → r ≡ asMachine n (machineLine s at)
-  unfolding withinLimits
-  undeclared g q =
-      let b : false ≡ allBelow n all = sym (not-true (marks .declared) g) ∙ declares (l .places) in
-      past (rw (← b) (and-false (leb (length all) 64))) b q
-
-  -- within them
-  pub placed : n ≤ 256 → count ≤ 64 → not (marks .declared) ≡ false
-      → record { formed = true; places = count; declared = true; doubled = marks .doubled; row = row; next = next } ≡ asMachine n (machineLine s at)
-  unfolding asMachine machineRow withinLimits
-  placed u g d =
-      let b : allBelow n all ≡ true = sym (declares (l .places)) ∙ not-false (marks .declared) d in
-      let w : withinLimits n all ≡ true = rw (le-leb (length all) 64 (omega (arith, counted)), b) in
+  pub placed : n ≤ 256 → (leb count 64 && marks .declared) ≡ true
+      → record { formed = true; places = count; declared = marks .declared; duplicate = marks .duplicate; row = row; next = next } ≡ asMachine n (machineLine s at)
+  unfolding asMachine machineRow
+  placed u h =
+      let w : withinLimits n all ≡ true = sym limits ∙ h in
+      let d : marks .declared ≡ true = and-eq-true-iff (leb count 64) (marks .declared) .0 h .1 in
       let f = l .places .found .rows ∙ filled-places n all u w (l .places .unmarked) in
-      rw (formed, w, ← counted, ← ap (λ (m : Marking). m .doubled) f, ← ap (λ (m : Marking). m .row) f)
+      let e : machineRow n all next ≡ asMachine n (machineLine s at) = rw (formed, w) in
+      (λ i. record { formed = true; places = counted i; declared = d i; duplicate = f i .duplicate; row = f i .row; next = next }) ∙ e
 
 -- no form
 pub no-machine : (n : ℕ) (o : Parsed Line) {r : MachineLine} → o ≡ fail → r ≡ withoutRow false 0 false 0 → r ≡ asMachine n o

@@ -1,2 +1,4 @@
+-- `Rows` and `Lines`: what the lines answer. `Marking`: what the inner functions promise.
+pub mod Rows
 pub mod Lines
 pub mod Marking

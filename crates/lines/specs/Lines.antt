@@ -1,13 +1,12 @@
 -- What the code answers to what a line's reader finds.
-use Prim.Native.Nat.{ℕ, zero, suc, _+_}
+use Prim.Native.Nat.{ℕ, _+_}
 use mathlib.Core.Bool.{Bool, true, false, cond, _&&_}
-use mathlib.Core.List.{List, [], _∷_, _++_, map, flatten}
-use mathlib.Core.Option.{Option, none, some}
+use mathlib.Core.List.{List, [], map, flatten}
+use mathlib.Core.Option.{none}
 use lib.Dec.{leb, ltb, eqb}
 use lib.ListN.{length, replicate}
-use lib.Seq.{sets}
-use Rattle.model.specs.Lists.{every, elem, count, lowest}
-use Rattle.model.specs.Machine.{Place, placeIn}
+use Rattle.model.specs.Lists.{every, count, lowest}
+use Rattle.model.specs.Machine.{Place}
 use Rattle.model.specs.Bytes.{Name}
 use Rattle.model.specs.Reading.{Parsed, fail, got}
 use Rattle.model.specs.Form.{Line, states, events, step, machine}
@@ -18,6 +17,7 @@ use Rattle.lines.specs.declared.EventsLine.{EventsLine}
 use Rattle.lines.specs.declared.StepLine.{StepLine}
 use Rattle.lines.specs.declared.StepLine.the-variants as S
 use Rattle.lines.specs.declared.MachineLine.{MachineLine}
+use Rattle.lines.specs.Rows.{row, spots, placeRow, orNoState}
 
 unfoldable pub asStates : Parsed Line → Word
 asStates fail = Missing
@@ -25,15 +25,6 @@ asStates (got (states n) next) = Found n next
 asStates (got (events es) next) = Missing
 asStates (got (step a e b) next) = Missing
 asStates (got (machine ps) next) = Missing
-
--- a row of n entries x, in which the values are stored from the front
-unfoldable pub row : ℕ → ℕ → List ℕ → List ℕ
-row n x xs = sets (replicate n x) 0 xs
-
--- the position of each name of a list that begins at a position: each stands after a space
-unfoldable pub spots : ℕ → List Name → List ℕ
-spots at [] = []
-spots at (e ∷ es) = (at + 1) ∷ spots (at + 1 + length e) es
 
 -- the length of "(events", after which the names begin
 unfoldable pub namesFrom : ℕ → ℕ
@@ -65,29 +56,12 @@ unfoldable pub asStep : Parsed Line → StepLine
 asStep fail = S.Missing
 asStep (got (states n) next) = S.Missing
 asStep (got (events es) next) = S.Missing
-asStep (got (step a e b) next) = S.Found a (length e) (high e) (low e) b next
+asStep (got (step a e b) next) = S.Found (record { source = a; «len» = length e; «high» = high e; «low» = low e; target = b; next = next })
 asStep (got (machine ps) next) = S.Missing
 
--- the values of a function at 0 to n - 1
-unfoldable pub tabulate : (ℕ → ℕ) → ℕ → List ℕ
-tabulate f zero = []
-tabulate f (suc n) = tabulate f n ++ (f n ∷ [])
-
--- the number of the place with the state x, or the mark of a state in no place
-unfoldable pub placeMark : List Place → ℕ → ℕ
-placeMark ps x = cond (elem x (flatten ps)) (placeIn ps x) 255
-
-unfoldable pub placeRow : List Place → List ℕ
-placeRow ps = tabulate (placeMark ps) 256
-
--- a state, or the number that no state has
-unfoldable pub orNoState : Option ℕ → ℕ
-orNoState none = 256
-orNoState (some x) = x
-
 -- the lowest state below n that is listed twice
-unfoldable pub doubledMark : ℕ → List Place → ℕ
-doubledMark n ps = orNoState (lowest (λ x. ltb 1 (count (eqb x) (flatten ps))) n)
+unfoldable pub duplicateMark : ℕ → List Place → ℕ
+duplicateMark n ps = orNoState (lowest (λ x. ltb 1 (count (eqb x) (flatten ps))) n)
 
 -- all states are below n
 unfoldable pub allBelow : ℕ → List Place → Bool
@@ -99,14 +73,14 @@ withinLimits n ps = leb (length ps) 64 && allBelow n ps
 -- a line whose row is not told: none of its form, or one past its limits
 unfoldable pub withoutRow : Bool → ℕ → Bool → ℕ → MachineLine
 withoutRow formed places declared next =
-    record { formed = formed; places = places; declared = declared; doubled = 256; row = replicate 256 255; next = next }
+    record { formed = formed; places = places; declared = declared; duplicate = 256; row = replicate 256 255; next = next }
 
 unfoldable pub noMachine : MachineLine
 noMachine = withoutRow false 0 false 0
 
 unfoldable pub machineRow : ℕ → List Place → ℕ → MachineLine
 machineRow n ps next =
-    record { formed = true; places = length ps; declared = true; doubled = doubledMark n ps; row = placeRow ps; next = next }
+    record { formed = true; places = length ps; declared = true; duplicate = duplicateMark n ps; row = placeRow ps; next = next }
 
 -- the line's row is told if it is within its limits
 unfoldable pub asMachine : ℕ → Parsed Line → MachineLine

@@ -29,11 +29,11 @@ pub record Long (a b c d : List ℕ) : Type 0 where
 -- a machine's row so far, whether all its states are declared, and the lowest that was listed twice
 pub record Marking : Type 0 where
   pub declared : Bool
-  pub doubled : ℕ
+  pub duplicate : ℕ
   pub row : List ℕ
 
 abbrev pub marking : Marks → List ℕ → Marking
-marking m row = record { declared = m .declared; doubled = m .doubled; row = row }
+marking m row = record { declared = m .declared; duplicate = m .duplicate; row = row }
 
 -- a state of place p: below n it goes into the row; the first place that lists it counts
 unfoldable pub marked : ℕ → ℕ → Marking → ℕ → Marking
@@ -42,9 +42,9 @@ marked n p m x =
     (ltb x n)
     (cond
     (eqb (getD (m .row) x 0) 255)
-    (record { declared = m .declared; doubled = m .doubled; row = set (m .row) x p })
-    (record { declared = m .declared; doubled = cond (ltb x (m .doubled)) x (m .doubled); row = m .row }))
-    (record { declared = false; doubled = m .doubled; row = m .row })
+    (record { declared = m .declared; duplicate = m .duplicate; row = set (m .row) x p })
+    (record { declared = m .declared; duplicate = cond (ltb x (m .duplicate)) x (m .duplicate); row = m .row }))
+    (record { declared = false; duplicate = m .duplicate; row = m .row })
 
 unfoldable pub markedAll : ℕ → ℕ → Marking → List ℕ → Marking
 markedAll n p m [] = m

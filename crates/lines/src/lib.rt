@@ -1,19 +1,21 @@
 // The lines of a text, each at a position: their form, and what they hold as numbers.
 ghost use mathlib.Core.Path.{_≡_};
-ghost use Prim.Native.Nat.{_<_, _≤_, _+_};
+ghost use Prim.Native.Nat.{_≤_};
+ghost use mathlib.Core.Bool.{_&&_};
+ghost use lib.Dec.{leb};
 ghost use lib.ListN.{length};
 ghost use lib.Seq.{sets};
 ghost use mathlib.Core.List.{map};
 ghost use Rattle.model.specs.Reading.{many};
 ghost use Rattle.model.specs.Form.{statesLine, eventsLine, stepLine, machineLine, place, spacedFigure, spacedName};
 ghost use Rattle.lexer.specs.Words as Words;
-ghost use Rattle.lines.specs.Lines.{asStates, asEvents, asStep, asMachine, noEvents, withoutRow, spots};
+ghost use Rattle.lines.specs.Rows.{spots};
+ghost use Rattle.lines.specs.Lines.{asStates, asEvents, asStep, asMachine, noEvents, withoutRow};
 ghost use Rattle.lines.specs.Marking.{asNames, Long, marking, marked, markedAll, upTo64, opened, PlaceRead, PlacesRead};
 use lexer::NameWord;
 use lexer::Word;
 use lexer::read_figure;
 use lexer::read_literal;
-use lexer::read_name;
 use lexer::read_spaced_figure;
 use lexer::read_spaced_name;
 
@@ -34,17 +36,19 @@ pub struct EventsLine {
     pub next: usize,
 }
 
-// A step line: the states, the event's name by its length and two numbers, and the position after the line.
+// The words of a step line: the states, the event's name by its length and two numbers, and the position after the line.
+pub struct StepWords {
+    pub source: usize,
+    pub len: usize,
+    pub high: u64,
+    pub low: u64,
+    pub target: usize,
+    pub next: usize,
+}
+
 pub enum StepLine {
     Missing,
-    Found {
-        source: usize,
-        len: usize,
-        high: u64,
-        low: u64,
-        target: usize,
-        next: usize,
-    },
+    Found(StepWords),
 }
 
 // A machine line: how many places, whether all its states are declared; and if it is within its limits, the lowest state that it lists twice and the
@@ -53,7 +57,7 @@ pub struct MachineLine {
     pub formed: bool,
     pub places: usize,
     pub declared: bool,
-    pub doubled: usize,
+    pub duplicate: usize,
     pub row: [u8; 256],
     pub next: usize,
 }
@@ -146,8 +150,8 @@ pub fn read_events(s: &[u8], at: usize) -> EventsLine
     let mut low = [0u64; 64];
     let names = read_names(s, a, &mut spot, &mut len, &mut high, &mut low);
     let count = names.count;
-    let end = names.next;
-    let Word::Found { value: _, next } = read_literal(s, end, b")\n") else {
+    let last = names.next;
+    let Word::Found { value: _, next } = read_literal(s, last, b")\n") else {
         return no_events();
     };
     EventsLine {
@@ -168,11 +172,7 @@ pub fn read_step(s: &[u8], at: usize) -> StepLine
     let Word::Found { value: _, next: a } = read_literal(s, at, b"(step ") else {
         return StepLine::Missing;
     };
-    let Word::Found {
-        value: source,
-        next: b,
-    } = read_figure(s, a)
-    else {
+    let Word::Found { value: x, next: b } = read_figure(s, a) else {
         return StepLine::Missing;
     };
     let NameWord::Found {
@@ -184,30 +184,26 @@ pub fn read_step(s: &[u8], at: usize) -> StepLine
     else {
         return StepLine::Missing;
     };
-    let Word::Found {
-        value: target,
-        next: d,
-    } = read_spaced_figure(s, c)
-    else {
+    let Word::Found { value: y, next: d } = read_spaced_figure(s, c) else {
         return StepLine::Missing;
     };
     let Word::Found { value: _, next } = read_literal(s, d, b")\n") else {
         return StepLine::Missing;
     };
-    StepLine::Found {
-        source,
+    StepLine::Found(StepWords {
+        source: x,
         len,
         high,
         low,
-        target,
+        target: y,
         next,
-    }
+    })
 }
 
 // What is known of a machine's states so far, beside the row: whether all are declared, and the lowest that was listed twice.
 struct Marks {
     declared: bool,
-    doubled: usize,
+    duplicate: usize,
 }
 
 // A state of place p goes into the row if it is below n; the first place that lists it counts.
@@ -216,24 +212,30 @@ fn mark(row: &mut [u8; 256], n: usize, p: u8, m: Marks, x: usize) -> Marks
     ensures { λ r. ⌜ marking r (now (row .exit)) ≡ marked n p (marking m (now (row .entry))) x ⌝ }
 {
     let declared = m.declared;
-    let doubled = m.doubled;
+    let duplicate = m.duplicate;
     if n <= x {
         return Marks {
             declared: false,
-            doubled,
+            duplicate,
         };
     }
     if row[x] == UNPLACED {
         row[x] = p;
-        return Marks { declared, doubled };
-    }
-    if x < doubled {
         return Marks {
             declared,
-            doubled: x,
+            duplicate,
         };
     }
-    Marks { declared, doubled }
+    if x < duplicate {
+        return Marks {
+            declared,
+            duplicate: x,
+        };
+    }
+    Marks {
+        declared,
+        duplicate,
+    }
 }
 
 // Marks, and the position after what was read.
@@ -333,10 +335,20 @@ fn without_row(formed: bool, places: usize, declared: bool, next: usize) -> Mach
         formed,
         places,
         declared,
-        doubled: NO_STATE,
+        duplicate: NO_STATE,
         row: [UNPLACED; 256],
         next,
     }
+}
+
+// So many places, whose states are declared or not, are within a machine's limits.
+fn within_limits(places: usize, declared: bool) -> bool
+    ensures { λ r. ⌜ r ≡ (leb places 64 && declared) ⌝ }
+{
+    if places <= 64 {
+        return declared;
+    }
+    false
 }
 
 // The machine line at a position, against n states. Each state starts unplaced.
@@ -348,9 +360,11 @@ pub fn read_machine(s: &[u8], at: usize, n: usize) -> MachineLine
         return without_row(false, 0, false, 0);
     };
     let mut row = [UNPLACED; 256];
+    let declared = true;
+    let duplicate = NO_STATE;
     let none = Marks {
-        declared: true,
-        doubled: NO_STATE,
+        declared,
+        duplicate,
     };
     let Places::Found {
         count,
@@ -367,18 +381,15 @@ pub fn read_machine(s: &[u8], at: usize, n: usize) -> MachineLine
         return without_row(false, 0, false, 0);
     };
     let declared = marks.declared;
-    let doubled = marks.doubled;
-    if 64 < count {
+    let duplicate = marks.duplicate;
+    if !within_limits(count, declared) {
         return without_row(true, count, declared, next);
-    }
-    if !declared {
-        return without_row(true, count, false, next);
     }
     MachineLine {
         formed: true,
         places: count,
-        declared: true,
-        doubled,
+        declared,
+        duplicate,
         row,
         next,
     }

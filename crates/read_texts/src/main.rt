@@ -4,7 +4,7 @@ ghost use lib.ListN.{length};
 use libc::STDIN_FILENO;
 use libc::STDOUT_FILENO;
 use model::Refusal;
-use reader::Plan;
+use reader::Tables;
 use reader::Verdict;
 
 fn put(word: &[u8]) {
@@ -46,7 +46,7 @@ fn put_event(at: usize, len: usize) {
     put(b")\n");
 }
 
-fn put_events(p: Plan) {
+fn put_events(p: Tables) {
     let count = p.events;
     let mut k = 0;
     while k < 64 && k < count {
@@ -63,7 +63,7 @@ fn put_step(source: u8, event: u8, target: u8) {
     put(b")\n");
 }
 
-fn put_steps(p: Plan) {
+fn put_steps(p: Tables) {
     let count = p.transitions;
     let mut k = 0;
     while k < 1024 && k < count {
@@ -73,7 +73,7 @@ fn put_steps(p: Plan) {
 }
 
 // The place of each state of machine m, 255 for a state in none.
-fn put_row(p: Plan, m: usize)
+fn put_row(p: Tables, m: usize)
     requires { ⌜ m < 16 ⌝ }
 {
     let n = p.states;
@@ -85,17 +85,17 @@ fn put_row(p: Plan, m: usize)
     }
 }
 
-fn put_machine(p: Plan, m: usize)
+fn put_machine(p: Tables, m: usize)
     requires { ⌜ m < 16 ⌝ }
 {
     put(b"(machine");
-    put_number(p.place_count[m]);
-    put_number(p.doubled[m]);
+    put_number(p.sizes[m]);
+    put_number(p.duplicate[m]);
     put_row(p, m);
     put(b")\n");
 }
 
-fn put_machines(p: Plan) {
+fn put_machines(p: Tables) {
     let count = p.machines;
     let mut m = 0;
     while m < 16 && m < count {
@@ -104,7 +104,7 @@ fn put_machines(p: Plan) {
     }
 }
 
-fn put_plan(p: Plan) {
+fn put_tables(p: Tables) {
     put(b"(read");
     put_number(p.states);
     put_number(p.initial);
@@ -120,8 +120,8 @@ fn answer(text: &[u8]) {
     match verdict {
         Verdict::Refused(why) => put_refusal(why),
         Verdict::Passed => {
-            let p = r.plan;
-            put_plan(p)
+            let p = r.tables;
+            put_tables(p)
         }
     }
 }

@@ -11,4 +11,6 @@ pub mod Phases
 pub mod StepSection
 pub mod MachineSection
 -- the answer
-pub mod Plans
+pub mod Answering
+-- what the tables tell of the text
+pub mod Telling

@@ -21,7 +21,8 @@ use Rattle.model.specs.Text.{Input}
 use Rattle.model.proofs.ListLaws.{flatMap-append}
 use Rattle.model.proofs.Values.{Named, lines}
 use Rattle.lines.specs.declared.MachineLine.{MachineLine}
-use Rattle.lines.specs.Lines.{placeRow, doubledMark, allBelow}
+use Rattle.lines.specs.Rows.{placeRow}
+use Rattle.lines.specs.Lines.{duplicateMark, allBelow}
 use Rattle.lines.proofs.Rows.{sets-append, length-placeRow}
 use Rattle.lines.proofs.Found.{GotMachine}
 use Rattle.reader.specs.declared.Section.the-variants.{Refused, Read}
@@ -55,11 +56,11 @@ machines-start h l =
       so-far = λ es ts c p f r. record { machines = []; rest = r; last = λ _. f; counted = refl; rows = refl };
     }
 
-abbrev rowOf : Machine → List ℕ
+abbrev pub rowOf : Machine → List ℕ
 rowOf m = placeRow (m .places)
 
 -- so many machines have so many entries
-length-rows : (ms : List Machine) → length (flatMap rowOf ms) ≡ length ms * 256
+pub length-rows : (ms : List Machine) → length (flatMap rowOf ms) ≡ length ms * 256
 unfolding flatMap
 length-rows [] = refl
 length-rows (m ∷ ms) = omega (arith, length-append (rowOf m) (flatMap rowOf ms), length-placeRow (m .places), length-rows ms)
@@ -131,7 +132,7 @@ module _ {s : List ℕ} {at n line : ℕ} {before : MachineRows} {k i : ℕ} {no
 
         -- it is within its limits and declared, and its numbers are stored
         pub section-more : {table : List ℕ} → table ≡ sets (now .places) (k * 256) (m .row)
-            → SoFar s at n line before (k + 1) (m .next) (machineRows (set (now .sizes) k (m .places)) (set (now .doubled) k (m .doubled)) table)
+            → SoFar s at n line before (k + 1) (m .next) (machineRows (set (now .sizes) k (m .places)) (set (now .duplicate) k (m .duplicate)) table)
         unfolding withMachines
         section-more {table} q =
             record {
@@ -150,8 +151,8 @@ module _ {s : List ℕ} {at n line : ℕ} {before : MachineRows} {k i : ℕ} {no
                     rows = λ o.
                         machineRows
                         (store (λ (u : Machine). length (u .places)) (now .sizes) (before .sizes) ms x k (m .places) (ap (λ (y : MachineRows). y .sizes) (t .rows)) (t .counted) (g .counted) o)
-                        (store (λ (u : Machine). doubledMark n (u .places)) (now .doubled) (before .doubled) ms x k (m .doubled) (ap (λ (y : MachineRows). y .doubled) (t .rows)) (t .counted)
-                        (g .doubled-is small declared) o)
+                        (store (λ (u : Machine). duplicateMark n (u .places)) (now .duplicate) (before .duplicate) ms x k (m .duplicate) (ap (λ (y : MachineRows). y .duplicate) (t .rows)) (t .counted)
+                        (g .duplicate-is small declared) o)
                         ((q ∙ store-row (now .places) (before .places) ms x k (m .row) (ap (λ (y : MachineRows). y .places) (t .rows)) (t .counted) (g .row-is small declared)) o);
                   };
             }

@@ -6,9 +6,9 @@ use native.Mathlib.Omega.{arith}
 use mathlib.Core.Path.{_≡_, refl, ap, sym, _∙_, subst}
 use mathlib.Core.Logic.{_⊎_, inl, inr}
 use mathlib.Core.Bool.{Bool, true, false, not}
-use mathlib.Core.List.{List, [], _∷_, map}
+use mathlib.Core.List.{List, [], _∷_}
 use lib.Dec.{T}
-use lib.ListN.{length, getD, length-map, List·getD-map}
+use lib.ListN.{length, getD}
 use Rattle.model.specs.Lists.{At, exists, index}
 use Rattle.model.specs.Bytes.{Name, IsName, sameName}
 use Rattle.model.specs.Text.{eventNumber, distinct}
@@ -17,15 +17,10 @@ use Rattle.model.proofs.Positions.{at-below, at-getD, getD-mem, at-value, index
 use Rattle.model.proofs.Values.{same-eq, same-refl, mem-named, distinct-once, not-distinct}
 use Rattle.lexer.specs.Words.{high, low}
 use Rattle.lexer.proofs.Telling.{told, name-bytes}
-use Rattle.lines.specs.Lines.{row, eventsRows}
+use Rattle.lines.specs.Lines.{eventsRows}
 use Rattle.lines.specs.declared.EventsLine.{EventsLine}
-use Rattle.lines.proofs.Rows.{getD-row}
+use Rattle.lines.proofs.Rows.{row-at}
 use Rattle.reader.specs.Sections.{NameRows, Finds, Events}
-
--- an entry of the row of what f says of each name
-pub getD-row-map : (f : Name → ℕ) (es : List Name) (k : ℕ) → length es ≤ 64 → k < length es → getD (row 64 0 (map f es)) k (f []) ≡ f (getD es k [])
-getD-row-map f es k h i =
-    getD-row 64 0 (map f es) k (f []) (omega (arith, length-map es f)) (omega (arith, length-map es f)) ∙ List·getD-map f es k []
 
 -- the entry j of the rows has the length n and the numbers h and l
 pub record Same (lens highs lows : List ℕ) (n h l j : ℕ) : Type 0 where
@@ -54,11 +49,12 @@ module _ {es : List Name} {count : ℕ} {lens highs lows : List ℕ} (r : NameRo
     -- the rows tell the name k
     pub entry : Same lens highs lows (length (getD es k [])) (high (getD es k [])) (low (getD es k [])) k
     entry =
-        let i : k < length es = omega arith in
+        let e = getD es k [] in
+        let a : At es k e = at-getD es k [] (omega arith) in
         record {
-          high = ap (λ (l : List ℕ). getD l k 0) (r .high) ∙ getD-row-map high es k (r .most) i;
-          low = ap (λ (l : List ℕ). getD l k 0) (r .low) ∙ getD-row-map low es k (r .most) i;
-          long = ap (λ (l : List ℕ). getD l k 0) (r .lengths) ∙ getD-row-map length es k (r .most) i;
+          high = ap (λ (l : List ℕ). getD l k 0) (r .high) ∙ row-at high 64 0 es k e 0 (r .most) a;
+          low = ap (λ (l : List ℕ). getD l k 0) (r .low) ∙ row-at low 64 0 es k e 0 (r .most) a;
+          long = ap (λ (l : List ℕ). getD l k 0) (r .lengths) ∙ row-at length 64 0 es k e 0 (r .most) a;
         }
 
     pub entry-name : IsName (getD es k [])

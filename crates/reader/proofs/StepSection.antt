@@ -3,7 +3,7 @@ use Prim.Native.Nat.{ℕ, _+_, _<_, _≤_}
 use native.Mathlib.Omega.{arith}
 use mathlib.Core.Path.{_≡_, refl, ap, sym, _∙_, subst}
 use mathlib.Core.Logic.{_⊎_, inl, inr, ⊎-elim}
-use mathlib.Core.Bool.{true, false, _&&_, and-eq-true-iff}
+use mathlib.Core.Bool.{Bool, true, false, _&&_, and-eq-true-iff}
 use mathlib.Core.List.{List, [], _∷_, _++_}
 use lib.Dec.{ltb}
 use borrow.Author.Tests.{ltb-true, ltb-false}
@@ -18,6 +18,7 @@ use Rattle.model.specs.Form.{states, step, stepLine}
 use Rattle.model.specs.Text.{Input, eventNumber}
 use Rattle.model.proofs.Values.{Named}
 use Rattle.lines.specs.declared.EventsLine.{EventsLine}
+use Rattle.lines.specs.declared.StepWords.{StepWords}
 use Rattle.lines.proofs.Found.{GotStep}
 use Rattle.reader.specs.declared.Section.{Section}
 use Rattle.reader.specs.declared.Section.the-variants.{Refused, Read}
@@ -64,11 +65,20 @@ pub record SoFar (s : List ℕ) (at n : ℕ) (line : EventsLine) (before : Trans
   pub so-far : (es : List Name) (c : Checked Input) → NameRows es (line .count) (line .«len») (line .«high») (line .«low») → Rest s (begun n es []) at c
       → Steps s n es c k i before now
 
-pub below-both : (a b n : ℕ) → (ltb a n && ltb b n) ≡ true → (a < n) × (b < n)
-below-both a b n e = let (p, q) = and-eq-true-iff (ltb a n) (ltb b n) .0 e in (ltb-true a n p, ltb-true b n q)
+-- three tests in one
+abbrev Test : ℕ → ℕ → ℕ → ℕ → ℕ → Bool
+Test a b n e m = ltb a n && (ltb e m && ltb b n)
 
-below-not : (a b n : ℕ) → (ltb a n && ltb b n) ≡ false → (n ≤ a) ⊎ (n ≤ b)
-below-not a b n e = ⊎-elim (λ p. inl (ltb-false a n p)) (λ p. inr (ltb-false b n p)) (and-not (ltb a n) (ltb b n) e)
+pub all-below : (a b n e m : ℕ) → Test a b n e m ≡ true → (a < n) × (b < n) × (e < m)
+all-below a b n e m h =
+    let (p, r) = and-eq-true-iff (ltb a n) (ltb e m && ltb b n) .0 h in
+    let (q, o) = and-eq-true-iff (ltb e m) (ltb b n) .0 r in
+    (ltb-true a n p, ltb-true b n o, ltb-true e m q)
+
+one-above : (a b n e m : ℕ) → Test a b n e m ≡ false → (n ≤ a) ⊎ ((m ≤ e) ⊎ (n ≤ b))
+one-above a b n e m h =
+    ⊎-elim (λ p. inl (ltb-false a n p)) (λ r. inr (⊎-elim (λ p. inl (ltb-false e m p)) (λ p. inr (ltb-false b n p)) (and-not (ltb e m) (ltb b n) r)))
+    (and-not (ltb a n) (ltb e m && ltb b n) h)
 
 -- what the section promises, with the answer r
 abbrev Promised : List ℕ → ℕ → ℕ → EventsLine → Section → TransitionRows → TransitionRows → Type 0
@@ -91,35 +101,33 @@ module _ {s : List ℕ} {at n : ℕ} {line : EventsLine} {before : TransitionRow
   unfolding countOf ReadsSteps StepsRead
   section-stop why f = (omega arith, λ es c m r. f es c m (z .so-far es c m r))
 
-  module _ {a l h w b next : ℕ} (g : GotStep (stepLine s i) a l h w b next) where
+  module _ {w : StepWords} (g : GotStep (stepLine s i) w) where
     pub section-limit : 1024 ≤ k → Promised s at n line (Refused (C.LimitExceeded (3 + k))) before now
     unfolding tabled
     section-limit m = section-stop (C.LimitExceeded (3 + k)) (λ es c _ t. step-many (t .steps) (t .rest) (g .read) (t .counted) m)
 
     module _ (room : k < 1024) where
-      pub section-states : (ltb a n && ltb b n) ≡ false → Promised s at n line (Refused (C.Undeclared (3 + k))) before now
-      unfolding tabled
-      section-states e = section-stop (C.Undeclared (3 + k)) (λ es c _ t. go es c t (below-not a b n e))
-        where
-          go : (es : List Name) (c : Checked Input) → Steps s n es c k i before now → (n ≤ a) ⊎ (n ≤ b) → c ≡ refused (tabled (C.Undeclared (3 + k)))
-          go es c t (inl m) = step-source (t .steps) (t .rest) (g .read) (t .counted) room m
-          go es c t (inr m) = step-target (t .steps) (t .rest) (g .read) (t .counted) room m
-
-      module _ {x : ℕ} (f : Finds count (line .«len») (line .«high») (line .«low») l h w x) where
+      module _ {x : ℕ} (f : Finds count (line .«len») (line .«high») (line .«low») (w .«len») (w .«high») (w .«low») x) where
         -- the event's number
         number : {es : List Name} → NameRows es (line .count) (line .«len») (line .«high») (line .«low») → x ≡ eventNumber es (g .name)
-        number {es} m = f .number es (subst (λ (y : ℕ). NameRows es y (line .«len») (line .«high») (line .«low»)) (sym (z .same)) m) (g .name) (g .is-name) (g .long) (g .high-is) (g .low-is)
+        number {es} m =
+            f .number es (subst (λ (y : ℕ). NameRows es y (line .«len») (line .«high») (line .«low»)) (sym (z .same)) m) (g .name) (g .is-name) (g .long) (g .high-is) (g .low-is)
 
-        pub section-event : count ≤ x → Promised s at n line (Refused (C.Undeclared (3 + k))) before now
+        pub section-undeclared : Test (w .source) (w .target) n x count ≡ false → Promised s at n line (Refused (C.Undeclared (3 + k))) before now
         unfolding tabled
-        section-event m =
-            section-stop (C.Undeclared (3 + k)) (λ es c r t. step-event (t .steps) (t .rest) (g .read) (t .counted) room (omega (arith, number r, r .counted, z .same)))
+        section-undeclared h = section-stop (C.Undeclared (3 + k)) (λ es c r t. go es c r t (one-above (w .source) (w .target) n x count h))
+          where
+            go : (es : List Name) (c : Checked Input) → NameRows es (line .count) (line .«len») (line .«high») (line .«low») → Steps s n es c k i before now
+                → (n ≤ w .source) ⊎ ((count ≤ x) ⊎ (n ≤ w .target)) → c ≡ refused (tabled (C.Undeclared (3 + k)))
+            go es c r t (inl m) = step-source (t .steps) (t .rest) (g .read) (t .counted) room m
+            go es c r t (inr (inl m)) = step-event (t .steps) (t .rest) (g .read) (t .counted) room (omega (arith, number r, r .counted, z .same))
+            go es c r t (inr (inr m)) = step-target (t .steps) (t .rest) (g .read) (t .counted) room m
 
         -- it is declared, and its numbers are stored
-        pub section-more : {p y q : ℕ} → (ltb a n && ltb b n) ≡ true → x < count → p ≡ a → y ≡ x → q ≡ b
-            → SoFar s at n line before count (k + 1) next (transitionRows (set (now .source) k p) (set (now .event) k y) (set (now .target) k q))
-        section-more e m source event target =
-            let (i, j) = below-both a b n e in
+        pub section-more : {p y q : ℕ} → Test (w .source) (w .target) n x count ≡ true → p ≡ w .source → y ≡ x → q ≡ w .target
+            → SoFar s at n line before count (k + 1) (w .next) (transitionRows (set (now .source) k p) (set (now .event) k y) (set (now .target) k q))
+        section-more h source event target =
+            let (i, j, m) = all-below (w .source) (w .target) n x count h in
             record {
               most = omega arith;
               few = z .few;

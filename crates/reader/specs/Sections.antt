@@ -3,7 +3,7 @@ use Prim.Native.Nat.{ℕ, _+_, _<_, _≤_}
 use mathlib.Core.Path.{_≡_}
 use mathlib.Core.Bool.{true}
 use mathlib.Core.List.{List, [], map, flatMap, List·Memᴰ}
-use lib.ListN.{length}
+use lib.ListN.{length, replicate}
 use lib.Seq.{sets}
 use Rattle.model.specs.Refusal.{Checked, refused, passed}
 use Rattle.model.specs.Cases.{tabled}
@@ -15,11 +15,12 @@ use Rattle.model.specs.Text.{Input, linesFrom, eventNumber, valueOf}
 use Rattle.model.proofs.Values.{Named, lines}
 use Rattle.lexer.specs.Words as Words
 use Rattle.lines.specs.declared.EventsLine.{EventsLine}
-use Rattle.lines.specs.Lines.{row, placeRow, doubledMark, eventsRows, namesFrom}
+use Rattle.lines.specs.Rows.{row, placeRow}
+use Rattle.lines.specs.Lines.{duplicateMark, eventsRows, namesFrom}
 use Rattle.reader.specs.declared.Reading.{Reading}
 use Rattle.reader.specs.declared.Section.{Section}
 use Rattle.reader.specs.declared.Section.the-variants.{Refused, Read}
-use Rattle.reader.specs.Plan.{Answers}
+use Rattle.reader.specs.Tables.{Answers}
 
 -- the rows of an events line hold these names
 pub record NameRows (es : List Name) (count : ℕ) (lens highs lows : List ℕ) : Type 0 where
@@ -95,17 +96,17 @@ ReadsSteps s at n line r before after =
 
 pub record MachineRows : Type 0 where
   pub sizes : List ℕ
-  pub doubled : List ℕ
+  pub duplicate : List ℕ
   pub places : List ℕ
 
 abbrev pub machineRows : List ℕ → List ℕ → List ℕ → MachineRows
-machineRows a b c = record { sizes = a; doubled = b; places = c }
+machineRows a b c = record { sizes = a; duplicate = b; places = c }
 
 unfoldable pub withMachines : ℕ → MachineRows → List Machine → MachineRows
 withMachines n r ms =
     record {
       sizes = sets (r .sizes) 0 (map (λ (m : Machine). length (m .places)) ms);
-      doubled = sets (r .doubled) 0 (map (λ (m : Machine). doubledMark n (m .places)) ms);
+      duplicate = sets (r .duplicate) 0 (map (λ (m : Machine). duplicateMark n (m .places)) ms);
       places = sets (r .places) 0 (flatMap (λ (m : Machine). placeRow (m .places)) ms);
     }
 
@@ -126,6 +127,16 @@ ReadsMachines s at n line r before after =
     (es : List Name) (ts : List Named) (c : Checked Input) → line ≡ 3 + length ts → stepLine s at ≡ fail → Rest s (begun n es ts) at c
     → MachinesRead n es ts c r before after
 
--- the lines after an events line
+-- the rows before a step line is read
+abbrev pub noSteps : TransitionRows
+noSteps = transitionRows (replicate 1024 0) (replicate 1024 0) (replicate 1024 0)
+
+-- the answer to a text whose events and k steps are read
+unfoldable pub ReadsLast : List ℕ → ℕ → ℕ → EventsLine → ℕ → TransitionRows → Reading → Type 0
+ReadsLast s at n line k rows r =
+    (es : List Name) (ts : List Named) (c : Checked Input) → Events n es line → k ≡ length ts → rows ≡ withSteps es noSteps ts → stepLine s at ≡ fail
+    → Rest s (begun n es ts) at c → Answers c r
+
+-- the answer to a text whose events are read
 unfoldable pub ReadsLines : List ℕ → ℕ → EventsLine → Reading → Type 0
 ReadsLines s n line r = (es : List Name) (c : Checked Input) → Events n es line → Rest s (begun n es []) (line .next) c → Answers c r

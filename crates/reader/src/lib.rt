@@ -11,8 +11,9 @@ ghost use Rattle.model.specs.Refusal.{refusalOf};
 ghost use Rattle.model.specs.Cases.{tabled};
 ghost use Rattle.model.specs.Bytes.{Name};
 ghost use Rattle.model.specs.Text as Text;
-ghost use Rattle.reader.specs.Plan.{verdictRefusal, planOf, noPlan};
-ghost use Rattle.reader.specs.Sections.{NameRows, Finds, countOf, ReadsSteps, transitionRows, ReadsMachines, machineRows, ReadsLines};
+ghost use Rattle.reader.specs.declared.Verdict.the-variants.{Passed};
+ghost use Rattle.reader.specs.Tables.{verdictRefusal, tablesOf, noTables};
+ghost use Rattle.reader.specs.Sections.{NameRows, Finds, countOf, ReadsSteps, transitionRows, ReadsMachines, machineRows, ReadsLast, ReadsLines};
 use lexer::Word;
 use lines::EventsLine;
 use lines::NO_STATE;
@@ -24,13 +25,14 @@ use lines::read_states;
 use lines::read_step;
 use model::Refusal;
 
+// Whether a text passes 1 to 3.
 pub enum Verdict {
     Refused(Refusal),
     Passed,
 }
 
 // What a text holds, in rows. Document 01: a plan and its split.
-pub struct Plan {
+pub struct Tables {
     pub states: usize,
     pub initial: usize,
     // for each event the position of its name in the text, and the name's length
@@ -44,15 +46,16 @@ pub struct Plan {
     pub target: [u8; 1024],
     // for each machine how many places it has, and the lowest state that it lists twice or NO_STATE
     pub machines: usize,
-    pub place_count: [usize; 16],
-    pub doubled: [usize; 16],
+    pub sizes: [usize; 16],
+    pub duplicate: [usize; 16],
     // at m * 256 + x the place of state x in machine m, or UNPLACED
     pub place: [u8; 4096],
 }
 
+// The answer to a text. Refused, its tables are all 0.
 pub struct Reading {
     pub verdict: Verdict,
-    pub plan: Plan,
+    pub tables: Tables,
 }
 
 // Lines of one kind: how many were read and the position after them, or the refusal of the next.
@@ -63,11 +66,11 @@ enum Section {
 
 fn refused(why: Refusal) -> Reading
     ensures { λ r. ⌜ verdictRefusal (r .verdict) ≡ some (tabled why) ⌝ }
-    ensures { λ r. ⌜ r .plan ≡ noPlan ⌝ }
+    ensures { λ r. ⌜ r .tables ≡ noTables ⌝ }
 {
     Reading {
         verdict: Verdict::Refused(why),
-        plan: Plan {
+        tables: Tables {
             states: 0,
             initial: 0,
             events: 0,
@@ -78,9 +81,9 @@ fn refused(why: Refusal) -> Reading
             event: [0u8; 1024],
             target: [0u8; 1024],
             machines: 0,
-            place_count: [0usize; 16],
-            doubled: [NO_STATE; 16],
-            place: [UNPLACED; 4096],
+            sizes: [0usize; 16],
+            duplicate: [0usize; 16],
+            place: [0u8; 4096],
         },
     }
 }
@@ -139,11 +142,14 @@ fn narrow(x: usize) -> u8
     x as u8
 }
 
-fn both_below(a: usize, b: usize, n: usize) -> bool
-    ensures { λ r. ⌜ r ≡ (ltb a n && ltb b n) ⌝ }
+// States a and b are below n, and event e below m.
+fn all_declared(a: usize, b: usize, n: usize, e: usize, m: usize) -> bool
+    ensures { λ r. ⌜ r ≡ (ltb a n && (ltb e m && ltb b n)) ⌝ }
 {
     if a < n {
-        return b < n;
+        if e < m {
+            return b < n;
+        }
     }
     false
 }
@@ -166,33 +172,25 @@ fn read_transitions(
     let mut k = 0;
     let mut i = at;
     loop {
-        let StepLine::Found {
-            source: a,
-            len,
-            high,
-            low,
-            target: b,
-            next,
-        } = read_step(s, i)
-        else {
+        let StepLine::Found(step) = read_step(s, i) else {
             return Section::Read { count: k, next: i };
         };
         let line = 3 + k;
         if 1024 <= k {
             return Section::Refused(Refusal::LimitExceeded { line });
         }
-        if !both_below(a, b, n) {
-            return Section::Refused(Refusal::Undeclared { line });
-        }
+        let len = step.len;
+        let high = step.high;
+        let low = step.low;
         let e = find_name(&names.len, &names.high, &names.low, count, len, high, low);
-        if count <= e {
+        if !all_declared(step.source, step.target, n, e, count) {
             return Section::Refused(Refusal::Undeclared { line });
         }
-        source[k] = narrow(a);
+        source[k] = narrow(step.source);
         event[k] = narrow(e);
-        target[k] = narrow(b);
+        target[k] = narrow(step.target);
         k += 1;
-        i = next;
+        i = step.next;
     }
 }
 
@@ -225,12 +223,12 @@ fn read_machines(
     at: usize,
     n: usize,
     line: usize,
-    place_count: &mut [usize; 16],
-    doubled: &mut [usize; 16],
+    sizes: &mut [usize; 16],
+    duplicate: &mut [usize; 16],
     place: &mut [u8; 4096],
 ) -> Section
     requires { ⌜ (n ≤ 256) × (line < 4096) ⌝ }
-    ensures { λ r. ⌜ ReadsMachines (now (s .entry)) at n line r (machineRows (now («place_count» .entry)) (now (doubled .entry)) (now (place .entry))) (machineRows (now («place_count» .exit)) (now (doubled .exit)) (now (place .exit))) ⌝ }
+    ensures { λ r. ⌜ ReadsMachines (now (s .entry)) at n line r (machineRows (now (sizes .entry)) (now (duplicate .entry)) (now (place .entry))) (machineRows (now (sizes .exit)) (now (duplicate .exit)) (now (place .exit))) ⌝ }
 {
     let mut k = 0;
     let mut i = at;
@@ -240,14 +238,16 @@ fn read_machines(
         if !m.formed {
             return Section::Refused(Refusal::Malformed { line: here });
         }
-        if !within_limits(k, m.places) {
+        let within = within_limits(k, m.places);
+        let declared = m.declared;
+        if !within {
             return Section::Refused(Refusal::LimitExceeded { line: here });
         }
-        if !m.declared {
+        if !declared {
             return Section::Refused(Refusal::Undeclared { line: here });
         }
-        place_count[k] = m.places;
-        doubled[k] = m.doubled;
+        sizes[k] = m.places;
+        duplicate[k] = m.duplicate;
         put_row(&m.row, place, k);
         k += 1;
         i = m.next;
@@ -258,8 +258,58 @@ fn read_machines(
     Section::Read { count: k, next: i }
 }
 
-// The lines after the events line.
-fn read_steps_and_machines(s: &[u8], n: usize, names: EventsLine) -> Reading
+fn passed(tables: Tables) -> Reading
+    ensures { λ r. ⌜ r ≡ record { verdict = Passed; tables = tables } ⌝ }
+{
+    Reading {
+        verdict: Verdict::Passed,
+        tables,
+    }
+}
+
+// The answer, once k step lines are read into rows.
+fn with_machines(
+    s: &[u8],
+    at: usize,
+    n: usize,
+    names: EventsLine,
+    k: usize,
+    source: [u8; 1024],
+    event: [u8; 1024],
+    target: [u8; 1024],
+) -> Reading
+    requires { ⌜ (n ≤ 256) × (k ≤ 1024) ⌝ }
+    ensures { λ r. ⌜ ReadsLast (now (s .entry)) at n names k (transitionRows source event target) r ⌝ }
+{
+    let mut sizes = [0usize; 16];
+    let mut duplicate = [NO_STATE; 16];
+    let mut place = [UNPLACED; 4096];
+    match read_machines(s, at, n, 3 + k, &mut sizes, &mut duplicate, &mut place) {
+        Section::Refused(why) => refused(why),
+        Section::Read { count, next: _ } => {
+            let name_at = names.at;
+            let name_len = names.len;
+            passed(Tables {
+                states: n,
+                initial: 0,
+                events: names.count,
+                name_at,
+                name_len,
+                transitions: k,
+                source,
+                event,
+                target,
+                machines: count,
+                sizes,
+                duplicate,
+                place,
+            })
+        }
+    }
+}
+
+// The answer, once the events line is read.
+fn with_transitions(s: &[u8], n: usize, names: EventsLine) -> Reading
     requires { ⌜ (n ≤ 256) × (names .count ≤ 64) ⌝ }
     ensures { λ r. ⌜ ReadsLines (now (s .entry)) n names r ⌝ }
 {
@@ -269,44 +319,8 @@ fn read_steps_and_machines(s: &[u8], n: usize, names: EventsLine) -> Reading
     let at = names.next;
     match read_transitions(s, at, n, names, &mut source, &mut event, &mut target) {
         Section::Refused(why) => refused(why),
-        Section::Read { count: k, next } => {
-            let mut place_count = [0usize; 16];
-            let mut doubled = [NO_STATE; 16];
-            let mut place = [UNPLACED; 4096];
-            match read_machines(
-                s,
-                next,
-                n,
-                3 + k,
-                &mut place_count,
-                &mut doubled,
-                &mut place,
-            ) {
-                Section::Refused(why) => refused(why),
-                Section::Read { count: j, next: _ } => {
-                    let events = names.count;
-                    let name_at = names.at;
-                    let name_len = names.len;
-                    Reading {
-                        verdict: Verdict::Passed,
-                        plan: Plan {
-                            states: n,
-                            initial: 0,
-                            events,
-                            name_at,
-                            name_len,
-                            transitions: k,
-                            source,
-                            event,
-                            target,
-                            machines: j,
-                            place_count,
-                            doubled,
-                            place,
-                        },
-                    }
-                }
-            }
+        Section::Read { count, next } => {
+            with_machines(s, next, n, names, count, source, event, target)
         }
     }
 }
@@ -314,7 +328,7 @@ fn read_steps_and_machines(s: &[u8], n: usize, names: EventsLine) -> Reading
 // The text's rows, or its refusal by 1, 2 or 3.
 pub fn read(text: &[u8]) -> Reading
     ensures { λ r. ⌜ verdictRefusal (r .verdict) ≡ refusalOf (Text.read (now (text .entry))) ⌝ }
-    ensures { λ r. ⌜ r .plan ≡ planOf (Text.read (now (text .entry))) ⌝ }
+    ensures { λ r. ⌜ r .tables ≡ tablesOf (Text.read (now (text .entry))) ⌝ }
 {
     if 32768 < text.len() {
         return refused(Refusal::LimitExceeded { line: 0 });
@@ -340,5 +354,5 @@ pub fn read(text: &[u8]) -> Reading
     if !distinct_names(&names.len, &names.high, &names.low, count) {
         return refused(Refusal::Undeclared { line: 2 });
     }
-    read_steps_and_machines(text, n, names)
+    with_transitions(text, n, names)
 }

@@ -1,6 +1,7 @@
 -- `lines::no_events` meets its contract: rows in which nothing is stored.
 use mathlib.Core.Path.{refl}
-use Rattle.lines.specs.Lines.{row, spots, eventsRows, noEvents}
+use Rattle.lines.specs.Rows.{row, spots}
+use Rattle.lines.specs.Lines.{eventsRows, noEvents}
 use Rattle.lines.proofs.no_events.Statement.{statement}
 use Rattle.lines.proofs.no_events.Tie as tie
 

@@ -8,7 +8,8 @@ use Rattle.model.specs.Bytes.{bytes}
 use Rattle.model.specs.Reading.{got, litBytes}
 use Rattle.model.specs.Form.{eventsLine}
 use Rattle.lexer.proofs.Answers.{literal-missing, literal-got}
-use Rattle.lines.specs.Lines.{row, asEvents}
+use Rattle.lines.specs.Rows.{row}
+use Rattle.lines.specs.Lines.{asEvents}
 use Rattle.lines.proofs.Events.{events-none, events-are}
 use Rattle.lines.proofs.read_events.Statement.{statement}
 use Rattle.lines.proofs.read_events.Tie as tie

@@ -1,13 +1,14 @@
 -- `lines::read_machine` meets its contract: each way out has its law in `MachineReader`.
 use Prim.Native.Nat.{ℕ}
-use mathlib.Core.Path.{refl}
+use mathlib.Core.Path.{refl, sym, _∙_}
 use mathlib.Core.Bool.{true}
 use borrow.Author.Needs.{needs}
+use borrow.Author.Tests.{not-true, not-false}
 use denote.Ref.{now}
 use lib.ListN.{replicate, length-replicate, getD-replicate}
 use Rattle.lexer.proofs.Answers.{literal-missing, literal-got}
 use Rattle.lines.proofs.Filling.{Unmarked}
-use Rattle.lines.proofs.MachineReader.{Headed, Listed, Ended, places-broken, places-found, headless, broken, no-places, unclosed, no-machine, too-many, undeclared, placed}
+use Rattle.lines.proofs.MachineReader.{Headed, Listed, Ended, headless, broken, no-places, unclosed, past, placed, no-machine, places-broken, places-found}
 use Rattle.lines.proofs.read_machine.Statement.{statement}
 use Rattle.lines.proofs.read_machine.Tie as tie
 
@@ -19,8 +20,8 @@ head : (c : tie.After-mark-places)
 head c = record { read = literal-got _ (c .before .before .before .before .before .read-literal .ensures) (c .before .before .before .a .given .1) }
 
 -- the row as it is lent
-unmarked : Unmarked (record { declared = true; doubled = 256; row = replicate 256 255 })
-unmarked = record { declared = refl; doubled = refl; long = length-replicate {A = ℕ} 256 255; free = λ y h. getD-replicate {A = ℕ} 256 y 255 0 h }
+unmarked : Unmarked (record { declared = true; duplicate = 256; row = replicate 256 255 })
+unmarked = record { declared = refl; duplicate = refl; long = length-replicate {A = ℕ} 256 255; free = λ y h. getD-replicate {A = ℕ} 256 y 255 0 h }
 
 -- the places are read
 listed : (c : tie.After-count)
@@ -31,7 +32,7 @@ listed : (c : tie.After-count)
 listed c =
     record {
       from = c .before .before .before .before .before .a .given .0 .1 .0;
-      start = record { declared = true; doubled = 256; row = replicate 256 255 };
+      start = record { declared = true; duplicate = 256; row = replicate 256 255 };
       head = head (c .before .before);
       unmarked = unmarked;
       found = places-found _ _ _ _ _ (c .before .before .mark-places .ensures) (c .count .given .1);
@@ -118,23 +119,17 @@ returns-4 c =
     (literal-missing _ (c .before .before .before .read-literal2 .ensures) (c .before .enum-told3 .given .1)))
     (c .without-row4 .ensures)
 
+within-limits-requires : tie.Need-within-limits-requires
+within-limits-requires c κs = search needs
+
 without-row-requires-5 : tie.Need-without-row-requires-5
 without-row-requires-5 c κs = search needs
 
 returns-5 : tie.Need-returns-5
-returns-5 c = too-many (ended (c .before .before .before)) (c .before .if2 .taken) (c .without-row5 .ensures)
-
-without-row-requires-6 : tie.Need-without-row-requires-6
-without-row-requires-6 c κs = search needs
+returns-5 c = past (ended (c .before .before .before .before)) (sym (c .before .before .within-limits .ensures) ∙ not-true _ (c .before .if2 .taken)) (c .without-row5 .ensures)
 
 returns-6 : tie.Need-returns-6
-returns-6 c = undeclared (ended (c .before .before .before .before)) (c .before .if3 .taken) (c .without-row6 .ensures)
-
-returns-7 : tie.Need-returns-7
-returns-7 c =
-    placed (ended (c .before .before .before))
-    (c .before .before .before .before .before .before .before .before .before .before .before .before .before .before .before .before .before .before .before .pre)
-    (c .before .if2 .left) (c .if3 .left)
+returns-6 c = placed (ended (c .before .before .before)) (c .before .before .before .before .before .before .before .before .before .before .before .before .before .before .before .before .before .before .before .pre) (sym (c .before .within-limits .ensures) ∙ not-false _ (c .if2 .left))
 
 pub read-machine-spec : {M : Type 1} → statement M
 read-machine-spec =
@@ -159,8 +154,7 @@ read-machine-spec =
     enum-told-3
     without-row-requires-4
     returns-4
+    within-limits-requires
     without-row-requires-5
     returns-5
-    without-row-requires-6
-    returns-6
-    returns-7)
+    returns-6)

@@ -42,26 +42,26 @@ abbrev next-1 : tie.After-known-told → ℕ
 next-1 c = c .before .a .given .0 .1 .0
 
 abbrev next-2 : tie.After-known-told2 → ℕ
-next-2 c = c .before .source .given .0 .1 .0
+next-2 c = c .before .x .given .0 .1 .0
 
 abbrev next-3 : tie.After-known-told3 → ℕ
 next-3 c = c .before .len .given .0 .1 .1 .1 .0
 
 abbrev next-4 : tie.After-known-told4 → ℕ
-next-4 c = c .before .target .given .0 .1 .0
+next-4 c = c .before .y .given .0 .1 .0
 
 at-1 : (c : tie.After-known-told) → litBytes (bytes "(step ") (text-1 c) (c .before .before .before .before .before .before .args .at) ≡ got tt (next-1 c)
 at-1 c = literal-got _ (c .before .before .before .read-literal .ensures) (c .before .a .given .1)
 
-at-2 : (c : tie.After-known-told2) → figure (text-2 c) (next-1 (to-1 c)) ≡ got (c .before .source .given .0 .0) (next-2 c)
-at-2 c = figure-got _ (c .before .before .before .read-figure .ensures) (c .before .source .given .1)
+at-2 : (c : tie.After-known-told2) → figure (text-2 c) (next-1 (to-1 c)) ≡ got (c .before .x .given .0 .0) (next-2 c)
+at-2 c = figure-got _ (c .before .before .before .read-figure .ensures) (c .before .x .given .1)
 
 at-3 : (c : tie.After-known-told3)
     → GotName (spacedName (text-3 c) (next-2 (to-2 c))) (c .before .len .given .0 .0) (c .before .len .given .0 .1 .0) (c .before .len .given .0 .1 .1 .0) (next-3 c)
 at-3 c = name-got _ (c .before .before .before .read-spaced-name .ensures) (c .before .len .given .1)
 
-at-4 : (c : tie.After-known-told4) → spacedFigure (text-4 c) (next-3 (to-3 c)) ≡ got (c .before .target .given .0 .0) (next-4 c)
-at-4 c = figure-got _ (c .before .before .before .read-spaced-figure .ensures) (c .before .target .given .1)
+at-4 : (c : tie.After-known-told4) → spacedFigure (text-4 c) (next-3 (to-3 c)) ≡ got (c .before .y .given .0 .0) (next-4 c)
+at-4 c = figure-got _ (c .before .before .before .read-spaced-figure .ensures) (c .before .y .given .1)
 
 at-5 : (c : tie.After-known-told5) → litBytes (bytes ")\n") (text-4 (to-4 c)) (next-4 (to-4 c)) ≡ got tt (c .before .next .given .0 .1 .0)
 at-5 c = literal-got _ (c .before .before .before .read-literal2 .ensures) (c .before .next .given .1)
@@ -87,8 +87,8 @@ returns c =
 read-figure-requires : tie.Need-read-figure-requires
 read-figure-requires c κs = search needs
 
-enum-known-source : tie.Need-enum-known-source
-enum-known-source c = search needs
+enum-known-x : tie.Need-enum-known-x
+enum-known-x c = search needs
 
 enum-told-2 : tie.Need-enum-told-2
 enum-told-2 c = search needs
@@ -117,8 +117,8 @@ returns-3 c =
 read-spaced-figure-requires : tie.Need-read-spaced-figure-requires
 read-spaced-figure-requires c κs = search needs
 
-enum-known-target : tie.Need-enum-known-target
-enum-known-target c = search needs
+enum-known-y : tie.Need-enum-known-y
+enum-known-y c = search needs
 
 enum-told-4 : tie.Need-enum-told-4
 enum-told-4 c = search needs
@@ -179,7 +179,7 @@ read-step-spec =
     enum-told
     returns
     read-figure-requires
-    enum-known-source
+    enum-known-x
     enum-told-2
     returns-2
     read-spaced-name-requires
@@ -187,7 +187,7 @@ read-step-spec =
     enum-told-3
     returns-3
     read-spaced-figure-requires
-    enum-known-target
+    enum-known-y
     enum-told-4
     returns-4
     slice-aggregate-read-literal-2

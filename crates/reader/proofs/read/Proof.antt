@@ -17,7 +17,7 @@ use Rattle.reader.specs.Sections.{Events, Rest, ReadsLines}
 use Rattle.reader.proofs.NameRows.{events-rows}
 use Rattle.reader.proofs.Rest.{too-long}
 use Rattle.reader.proofs.Phases.{states-fail, states-none, states-many, states-more, events-fail, events-many, events-twice, events-more, events-held}
-use Rattle.reader.proofs.Plans.{refusing}
+use Rattle.reader.proofs.Answering.{refusing}
 use Rattle.reader.proofs.read.Statement.{statement}
 use Rattle.reader.proofs.read.Tie as tie
 
@@ -105,13 +105,13 @@ returns-7 : tie.Need-returns-7
 unfolding tabled
 returns-7 c = refusing _ (events-twice (begun-text (c .before .before .before .before .before .before .before .before .before .before)) (listed (c .before .before .before .before .before .before .before .before) .read) (held (c .before .before .before .before .before .before .before) .most) (sym (c .before .before .distinct-names .ensures _ (events-rows (held (c .before .before .before .before .before .before .before)))) ∙ not-true _ (c .before .if6 .taken))) (c .refused7 .ensures)
 
-read-steps-and-machines-requires : tie.Need-read-steps-and-machines-requires
-read-steps-and-machines-requires c κs = search needs
+with-transitions-requires : tie.Need-with-transitions-requires
+with-transitions-requires c κs = search needs
 
 returns-8 : tie.Need-returns-8
 unfolding ReadsLines
 returns-8 c =
-    let a = c .read-steps-and-machines .ensures _ _ (held (c .before .before .before .before .before .before .before)) (events-more (begun-text (c .before .before .before .before .before .before .before .before .before .before)) (listed (c .before .before .before .before .before .before .before .before) .read) (held (c .before .before .before .before .before .before .before) .most) (sym (c .before .before .distinct-names .ensures _ (events-rows (held (c .before .before .before .before .before .before .before)))) ∙ not-false _ (c .before .if6 .left))) in
+    let a = c .with-transitions .ensures _ _ (held (c .before .before .before .before .before .before .before)) (events-more (begun-text (c .before .before .before .before .before .before .before .before .before .before)) (listed (c .before .before .before .before .before .before .before .before) .read) (held (c .before .before .before .before .before .before .before) .most) (sym (c .before .before .distinct-names .ensures _ (events-rows (held (c .before .before .before .before .before .before .before)))) ∙ not-false _ (c .before .if6 .left))) in
     (a .verdict, a .rows)
 
 pub read-spec : {M : Type 1} → statement M
@@ -137,5 +137,5 @@ read-spec =
     distinct-names-requires
     refused-requires-7
     returns-7
-    read-steps-and-machines-requires
+    with-transitions-requires
     returns-8)

@@ -17,10 +17,10 @@ use Rattle.reader.proofs.read_machines.Statement.{statement}
 use Rattle.reader.proofs.read_machines.Tie as tie
 
 abbrev Inv-loop : tie.InvT-loop
-Inv-loop s at n line place-count₀ doubled₀ place₀ k₀ i₀ place-count doubled place k i = SoFar s at n line (machineRows place-count₀ doubled₀ place₀) k i (machineRows place-count doubled place)
+Inv-loop s at n line sizes₀ duplicate₀ place₀ k₀ i₀ sizes duplicate place k i = SoFar s at n line (machineRows sizes₀ duplicate₀ place₀) k i (machineRows sizes duplicate place)
 
 abbrev μ-loop : tie.MeasureT-loop
-μ-loop s at n line place-count₀ doubled₀ place₀ k₀ i₀ place-count doubled place k i = length s - i
+μ-loop s at n line sizes₀ duplicate₀ place₀ k₀ i₀ sizes duplicate place k i = length s - i
 
 -- the line that a turn has read
 found : (c : tie.Else1 Inv-loop μ-loop) → GotMachine (c .before .before .before .before .before .args .n) (machineLine (now (c .before .before .before .before .before .args .s)) (c .before .before .before .loop .i)) (c .before .read-machine .result)
@@ -54,17 +54,17 @@ returns-2 c = section-limit (c .before .before .before .before .before .loop .in
 returns-3 : tie.Need-returns-3 Inv-loop μ-loop
 returns-3 c = section-undeclared (c .before .before .before .before .before .before .loop .inv) (found (c .before .before .before)) (within (c .before)) (not-true _ (c .if3 .taken))
 
-mul-place-count : tie.Need-mul-place-count Inv-loop μ-loop
-mul-place-count c = search needs
+mul-sizes : tie.Need-mul-sizes Inv-loop μ-loop
+mul-sizes c = search needs
 
-element-write-place-count : tie.Need-element-write-place-count Inv-loop μ-loop
-element-write-place-count c = omega (arith, room (c .before))
+element-write-sizes : tie.Need-element-write-sizes Inv-loop μ-loop
+element-write-sizes c = omega (arith, room (c .before))
 
-mul-doubled : tie.Need-mul-doubled Inv-loop μ-loop
-mul-doubled c = search needs
+mul-duplicate : tie.Need-mul-duplicate Inv-loop μ-loop
+mul-duplicate c = search needs
 
-element-write-doubled : tie.Need-element-write-doubled Inv-loop μ-loop
-element-write-doubled c = omega (arith, room (c .before))
+element-write-duplicate : tie.Need-element-write-duplicate Inv-loop μ-loop
+element-write-duplicate c = omega (arith, room (c .before))
 
 put-row-requires : tie.Need-put-row-requires Inv-loop μ-loop
 put-row-requires c κs = section-room (c .before .before .before .before .before .before .before .before .before .loop .inv) (found (c .before .before .before .before .before .before)) (within (c .before .before .before .before)) (not-false _ (c .before .before .before .if3 .left))
@@ -97,10 +97,10 @@ read-machines-spec =
     within-limits-requires
     returns-2
     returns-3
-    mul-place-count
-    element-write-place-count
-    mul-doubled
-    element-write-doubled
+    mul-sizes
+    element-write-sizes
+    mul-duplicate
+    element-write-duplicate
     put-row-requires
     add-k
     loop-less

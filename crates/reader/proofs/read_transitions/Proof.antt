@@ -1,18 +1,16 @@
 -- `reader::read_transitions` meets its contract. The invariant: the step lines so far are read into the rows, and the rest comes to the same.
 use Prim.Native.Nat.{_-_, _<_}
 use native.Mathlib.Omega.{arith}
-use mathlib.Core.Path.{_≡_, refl, sym, _∙_}
-use mathlib.Core.Bool.{true, _&&_}
+use mathlib.Core.Path.{refl, sym, _∙_}
 use denote.Ref.{now}
-use lib.Dec.{ltb}
+use borrow.Author.Needs.{needs}
 use borrow.Author.Tests.{not-true, not-false}
 use Rattle.model.specs.Form.{stepLine}
 use Rattle.lines.proofs.Found.{GotStep, step-got, step-missing}
-use borrow.Author.Needs.{needs}
+use Rattle.reader.proofs.Rest.{step-moves}
 use lib.ListN.{length}
 use Rattle.reader.specs.Sections.{transitionRows}
-use Rattle.reader.proofs.Rest.{step-moves}
-use Rattle.reader.proofs.StepSection.{SoFar, steps-start, below-both, section-end, section-limit, section-states, section-event, section-more}
+use Rattle.reader.proofs.StepSection.{SoFar, steps-start, all-below, section-end, section-limit, section-undeclared, section-more}
 use Rattle.reader.proofs.read_transitions.Statement.{statement}
 use Rattle.reader.proofs.read_transitions.Tie as tie
 
@@ -23,16 +21,13 @@ abbrev μ-loop : tie.MeasureT-loop
 μ-loop s at n source₀ event₀ target₀ names count k₀ i₀ source event target k i = length s - i
 
 -- the line that a turn has read
-found : (c : tie.After-known-told Inv-loop μ-loop) → GotStep (stepLine (now (c .before .before .before .before .before .before .args .s)) (c .before .before .before .before .loop .i)) (c .before .a .given .0 .0) (c .before .a .given .0 .1 .0)
-    (c .before .a .given .0 .1 .1 .0) (c .before .a .given .0 .1 .1 .1 .0) (c .before .a .given .0 .1 .1 .1 .1 .0) (c .before .a .given .0 .1 .1 .1 .1 .1 .0)
-found c = step-got _ _ (c .before .before .before .read-step .ensures) (c .before .a .given .1)
+found : (c : tie.After-known-told Inv-loop μ-loop) → GotStep (stepLine (now (c .before .before .before .before .before .before .args .s)) (c .before .before .before .before .loop .i)) (c .before .step .given .0 .0)
+found c = step-got _ _ (c .before .before .before .read-step .ensures) (c .before .step .given .1)
 
--- its states are declared
-both : (c : tie.After-find-name Inv-loop μ-loop) → (ltb (c .before .before .before .before .before .before .before .before .before .a .given .0 .0) (c .before .before .before .before .before .before .before .before .before .before .before .before .before .before .args .n) && ltb (c .before .before .before .before .before .before .before .before .before .a .given .0 .1 .1 .1 .1 .0) (c .before .before .before .before .before .before .before .before .before .before .before .before .before .before .args .n)) ≡ true
-both c = sym (c .before .before .before .before .before .before .both-below .ensures) ∙ not-false _ (c .before .before .before .before .before .if2 .left)
-
-below : (c : tie.After-find-name Inv-loop μ-loop) → (c .before .before .before .before .before .before .before .before .before .a .given .0 .0 < c .before .before .before .before .before .before .before .before .before .before .before .before .before .before .args .n) × (c .before .before .before .before .before .before .before .before .before .a .given .0 .1 .1 .1 .1 .0 < c .before .before .before .before .before .before .before .before .before .before .before .before .before .before .args .n)
-below c = below-both _ _ _ (both c)
+-- it is declared
+below : (c : tie.Else2 Inv-loop μ-loop)
+    → (c .before .before .before .before .before .before .before .before .before .step .given .0 .0 .source < c .before .before .before .before .before .before .before .before .before .before .before .before .before .before .args .n) × (c .before .before .before .before .before .before .before .before .before .step .given .0 .0 .target < c .before .before .before .before .before .before .before .before .before .before .before .before .before .before .args .n) × (c .before .before .find-name .result < c .before .before .before .before .before .before .before .before .before .before .before .before .before .before .args .t4 .count)
+below c = all-below _ _ _ _ _ (sym (c .before .all-declared .ensures) ∙ not-false _ (c .if2 .left))
 
 loop-holds : tie.Need-loop-holds Inv-loop μ-loop
 loop-holds c = record { most = omega arith; few = c .before .pre .1; same = refl; states = c .before .pre .0; so-far = λ es x m r. steps-start r }
@@ -40,8 +35,8 @@ loop-holds c = record { most = omega arith; few = c .before .pre .1; same = refl
 read-step-requires : tie.Need-read-step-requires Inv-loop μ-loop
 read-step-requires c κs = search needs
 
-enum-known-a : tie.Need-enum-known-a Inv-loop μ-loop
-enum-known-a c = search needs
+enum-known-step : tie.Need-enum-known-step Inv-loop μ-loop
+enum-known-step c = search needs
 
 enum-told : tie.Need-enum-told Inv-loop μ-loop
 enum-told c = search needs
@@ -55,32 +50,29 @@ add-line c = search needs
 returns-2 : tie.Need-returns-2 Inv-loop μ-loop
 returns-2 c = section-limit (c .before .before .before .before .before .loop .inv) (found (c .before)) (c .if1 .taken)
 
-both-below-requires : tie.Need-both-below-requires Inv-loop μ-loop
-both-below-requires c κs = search needs
-
-returns-3 : tie.Need-returns-3 Inv-loop μ-loop
-returns-3 c = section-states (c .before .before .before .before .before .before .before .loop .inv) (found (c .before .before .before)) (c .before .before .if1 .left) (sym (c .before .both-below .ensures) ∙ not-true _ (c .if2 .taken))
-
 find-name-requires : tie.Need-find-name-requires Inv-loop μ-loop
 find-name-requires c κs = search needs
 
-returns-4 : tie.Need-returns-4 Inv-loop μ-loop
-returns-4 c = section-event (c .before .before .before .before .before .before .before .before .before .before .before .before .before .loop .inv) (found (c .before .before .before .before .before .before .before .before .before)) (c .before .before .before .before .before .before .before .before .if1 .left) (c .before .find-name .ensures) (c .if3 .taken)
+all-declared-requires : tie.Need-all-declared-requires Inv-loop μ-loop
+all-declared-requires c κs = search needs
+
+returns-3 : tie.Need-returns-3 Inv-loop μ-loop
+returns-3 c = section-undeclared (c .before .before .before .before .before .before .before .before .before .before .before .before .loop .inv) (found (c .before .before .before .before .before .before .before .before)) (c .before .before .before .before .before .before .before .if1 .left) (c .before .before .find-name .ensures) (sym (c .before .all-declared .ensures) ∙ not-true _ (c .if2 .taken))
 
 narrow-requires : tie.Need-narrow-requires Inv-loop μ-loop
-narrow-requires c κs = omega (arith, below (c .before), c .before .before .before .before .before .before .before .before .before .before .before .before .before .loop .inv .states)
+narrow-requires c κs = omega (arith, below c, c .before .before .before .before .before .before .before .before .before .before .before .before .loop .inv .states)
 
 element-write-source : tie.Need-element-write-source Inv-loop μ-loop
 element-write-source c = search needs
 
 narrow-requires-2 : tie.Need-narrow-requires-2 Inv-loop μ-loop
-narrow-requires-2 c κs = omega (arith, c .before .if3 .left, c .before .before .before .before .before .before .before .before .before .before .before .before .before .before .loop .inv .few)
+narrow-requires-2 c κs = omega (arith, below (c .before), c .before .before .before .before .before .before .before .before .before .before .before .before .before .loop .inv .few)
 
 element-write-event : tie.Need-element-write-event Inv-loop μ-loop
 element-write-event c = search needs
 
 narrow-requires-3 : tie.Need-narrow-requires-3 Inv-loop μ-loop
-narrow-requires-3 c κs = omega (arith, below (c .before .before .before), c .before .before .before .before .before .before .before .before .before .before .before .before .before .before .before .loop .inv .states)
+narrow-requires-3 c κs = omega (arith, below (c .before .before), c .before .before .before .before .before .before .before .before .before .before .before .before .before .before .loop .inv .states)
 
 element-write-target : tie.Need-element-write-target Inv-loop μ-loop
 element-write-target c = search needs
@@ -89,10 +81,10 @@ add-k : tie.Need-add-k Inv-loop μ-loop
 add-k c = search needs
 
 loop-less : tie.Need-loop-less Inv-loop μ-loop
-loop-less c = omega (arith, step-moves _ _ (found (c .before .before .before .before .before .before .before .before .before .before .before .before) .read))
+loop-less c = omega (arith, step-moves _ _ (found (c .before .before .before .before .before .before .before .before .before .before .before) .read))
 
 loop-again : tie.Need-loop-again Inv-loop μ-loop
-loop-again c = section-more (c .before .before .before .before .before .before .before .before .before .before .before .before .before .before .before .before .loop .inv) (found (c .before .before .before .before .before .before .before .before .before .before .before .before)) (c .before .before .before .before .before .before .before .before .before .before .before .if1 .left) (c .before .before .before .before .find-name .ensures) (both (c .before .before .before .before)) (c .before .before .before .if3 .left) (c .before .before .narrow .ensures) (c .before .narrow2 .ensures) (c .narrow3 .ensures)
+loop-again c = section-more (c .before .before .before .before .before .before .before .before .before .before .before .before .before .before .before .loop .inv) (found (c .before .before .before .before .before .before .before .before .before .before .before)) (c .before .before .before .before .before .before .before .before .before .before .if1 .left) (c .before .before .before .before .before .find-name .ensures) (sym (c .before .before .before .before .all-declared .ensures) ∙ not-false _ (c .before .before .before .if2 .left)) (c .before .before .narrow .ensures) (c .before .narrow2 .ensures) (c .narrow3 .ensures)
 
 pub read-transitions-spec : {M : Type 1} → statement M
 read-transitions-spec =
@@ -102,15 +94,14 @@ read-transitions-spec =
     μ-loop
     loop-holds
     read-step-requires
-    enum-known-a
+    enum-known-step
     enum-told
     returns
     add-line
     returns-2
-    both-below-requires
-    returns-3
     find-name-requires
-    returns-4
+    all-declared-requires
+    returns-3
     narrow-requires
     element-write-source
     narrow-requires-2

@@ -1,12 +1,12 @@
--- `reader::refused` meets its contract: its plan is the plan of nothing.
+-- `reader::refused` meets its contract: its tables are those of nothing.
 use mathlib.Core.Path.{refl}
-use Rattle.lines.specs.Lines.{row}
-use Rattle.reader.specs.Plan.{verdictRefusal, plan, noPlan}
+use Rattle.lines.specs.Rows.{row}
+use Rattle.reader.specs.Tables.{verdictRefusal, noTables}
 use Rattle.reader.proofs.refused.Statement.{statement}
 use Rattle.reader.proofs.refused.Tie as tie
 
 returns : tie.Need-returns
-unfolding verdictRefusal noPlan plan row
+unfolding verdictRefusal noTables row
 returns c = (refl, refl)
 
 pub refused-spec : {M : Type 1} → statement M

@@ -15,12 +15,13 @@ use Rattle.model.specs.Text.{Input, valueOf, nameAt, system}
 use Rattle.model.proofs.ListLaws.{map-map}
 use Rattle.model.proofs.Values.{Named, lines, numbered, input, value-of-lines}
 use Rattle.lines.specs.declared.EventsLine.{EventsLine}
-use Rattle.lines.specs.Lines.{row, tabulate, spots, namesFrom, eventsRows, placeRow, orNoState, doubledMark}
+use Rattle.lines.specs.Rows.{row, tabulate, spots, placeRow, orNoState}
+use Rattle.lines.specs.Lines.{namesFrom, eventsRows, duplicateMark}
 use Rattle.reader.specs.declared.Verdict.the-variants.{Passed}
-use Rattle.reader.specs.declared.Plan.{Plan}
+use Rattle.reader.specs.declared.Tables.{Tables}
 use Rattle.reader.specs.declared.Reading.{Reading}
-use Rattle.reader.specs.Plan.{verdictRefusal, plan, noPlan, planOf, Answers}
-use Rattle.reader.specs.Sections.{Events, TransitionRows, withSteps, MachineRows, withMachines}
+use Rattle.reader.specs.Tables.{verdictRefusal, noTables, tablesOf, Answers}
+use Rattle.reader.specs.Sections.{Events, TransitionRows, withSteps, noSteps, MachineRows, withMachines}
 
 -- ---- the places of the names
 
@@ -55,17 +56,14 @@ spots-tabled at (e ∷ es) =
     (λ k. omega (arith, length-append e (spaced (take k es)))) (length es)
     ∙ spots-tabled (at + 1 + length e) es)
 
--- ---- the plan
+-- ---- the tables
 
--- the rows before the steps and the machines are read
-abbrev pub noSteps : TransitionRows
-noSteps = record { source = replicate 1024 0; event = replicate 1024 0; target = replicate 1024 0 }
-
+-- the rows before a machine line is read
 abbrev pub noMachines : MachineRows
-noMachines = record { sizes = replicate 16 0; doubled = replicate 16 256; places = replicate 4096 255 }
+noMachines = record { sizes = replicate 16 0; duplicate = replicate 16 256; places = replicate 4096 255 }
 
--- the plan that the code builds
-abbrev pub built : ℕ → EventsLine → ℕ → TransitionRows → ℕ → MachineRows → Plan
+-- the tables that the code builds
+abbrev pub built : ℕ → EventsLine → ℕ → TransitionRows → ℕ → MachineRows → Tables
 built n names k steps j machines =
     record {
       states = n;
@@ -78,8 +76,8 @@ built n names k steps j machines =
       event = steps .event;
       target = steps .target;
       machines = j;
-      «place_count» = machines .sizes;
-      doubled = machines .doubled;
+      sizes = machines .sizes;
+      duplicate = machines .duplicate;
       place = machines .places;
     }
 
@@ -97,48 +95,48 @@ module _ (n : ℕ) (es : List Name) (ts : List Named) (ms : List Machine) where
       (length es)
       ∙ spots-tabled (length (written (states n)) + 7) es
 
-  doubled-marked : map (λ (m : Machine). orNoState (duplicateState (system value) m)) ms ≡ map (λ (m : Machine). doubledMark n (m .places)) ms
-  unfolding duplicateState doubledMark
-  doubled-marked = refl
+  duplicate-marked : map (λ (m : Machine). orNoState (duplicateState (system value) m)) ms ≡ map (λ (m : Machine). duplicateMark n (m .places)) ms
+  unfolding duplicateState duplicateMark
+  duplicate-marked = refl
 
-  -- the rows of the lines are the plan
-  pub planned : (next : ℕ) → planOf (passed (valueOf (lines n es ts ms)))
+  -- the rows of the lines are the tables
+  pub tabled-value : (next : ℕ) → tablesOf (passed (valueOf (lines n es ts ms)))
       ≡ built n (eventsRows true (namesFrom (length (written (states n)))) es next) (length ts) (withSteps es noSteps ts) (length ms) (withMachines n noMachines ms)
-  unfolding planOf plan eventsRows withSteps withMachines row
-  planned next =
-      ap (λ (v : Input). planOf (passed v)) (value-of-lines n es ts ms)
+  unfolding tablesOf eventsRows withSteps withMachines row
+  tabled-value next =
+      ap (λ (v : Input). tablesOf (passed v)) (value-of-lines n es ts ms)
       ∙ λ i. record {
         states = n;
         initial = 0;
-        events = length-map es length i;
+        events = length es;
         «name_at» = row 64 0 (names-placed i);
         «name_len» = row 64 0 (map length es);
         transitions = length-map ts (numbered es) i;
         source = row 1024 0 (map-map (λ (t : Transition). t .source) (numbered es) ts i);
         event = row 1024 0 (map-map (λ (t : Transition). t .event) (numbered es) ts i);
         target = row 1024 0 (map-map (λ (t : Transition). t .target) (numbered es) ts i);
-        machines = length-map ms (λ (m : Machine). length (m .places)) i;
-        «place_count» = row 16 0 (map (λ (m : Machine). length (m .places)) ms);
-        doubled = row 16 256 (doubled-marked i);
+        machines = length ms;
+        sizes = row 16 0 (map (λ (m : Machine). length (m .places)) ms);
+        duplicate = row 16 256 (duplicate-marked i);
         place = row 4096 255 (flatMap (λ (m : Machine). placeRow (m .places)) ms);
       }
 
 -- ---- the answers
 
 -- the code's answer to a refusal
-pub answers-refused : {q : Refusal} {c : Checked Input} {r : Reading} → c ≡ refused q → verdictRefusal (r .verdict) ≡ some q → r .plan ≡ noPlan → Answers c r
-unfolding planOf
+pub answers-refused : {q : Refusal} {c : Checked Input} {r : Reading} → c ≡ refused q → verdictRefusal (r .verdict) ≡ some q → r .tables ≡ noTables → Answers c r
+unfolding tablesOf
 answers-refused e v p = record { verdict = rw e v; rows = rw e p }
 
 -- its answer where all lines are read
 module _ {c : Checked Input} {n : ℕ} {es : List Name} {names : EventsLine} {k j : ℕ} {steps : TransitionRows} {machines : MachineRows} where
   pub answers-passed : (ts : List Named) (ms : List Machine) → Events n es names → c ≡ passed (valueOf (lines n es ts ms))
       → k ≡ length ts → steps ≡ withSteps es noSteps ts → j ≡ length ms → machines ≡ withMachines n noMachines ms
-      → Answers c (record { verdict = Passed; plan = built n names k steps j machines })
+      → Answers c (record { verdict = Passed; tables = built n names k steps j machines })
   unfolding verdictRefusal
-  answers-passed ts ms e w p q o u = record { verdict = rw w; rows = rw (w, e .rows, p, q, o, u) (sym (planned n es ts ms (names .next))) }
+  answers-passed ts ms e w p q o u = record { verdict = rw w; rows = rw (w, e .rows, p, q, o, u) (sym (tabled-value n es ts ms (names .next))) }
 
 -- the same as the public contract has it
-pub refusing : {c : Checked Input} {q : Refusal} (r : Reading) → c ≡ refused q → (verdictRefusal (r .verdict) ≡ some q) × (r .plan ≡ noPlan)
-    → (verdictRefusal (r .verdict) ≡ refusalOf c) × (r .plan ≡ planOf c)
+pub refusing : {c : Checked Input} {q : Refusal} (r : Reading) → c ≡ refused q → (verdictRefusal (r .verdict) ≡ some q) × (r .tables ≡ noTables)
+    → (verdictRefusal (r .verdict) ≡ refusalOf c) × (r .tables ≡ tablesOf c)
 refusing r e p = let a = answers-refused {r = r} e (p .0) (p .1) in (a .verdict, a .rows)
