@@ -51,13 +51,6 @@ module _ {A B R : Type 0} {r : Reader A} {G : B → List A × ℕ → R} {s : Li
       let (k, en, sa) = ahead m inv a next e in
       record { fuel = k; enough = en; same = sym (h (atMost k r s next .0) (atMost k r s next .1)) ∙ sa }
 
-  -- an item at which the loop stops with the answer x
-  pub items-stop : Moves r → Items r G s t b i → (a : A) (next : ℕ) → r s i ≡ got a next → (x : R)
-      → ((l : List A) (end : ℕ) → G b (a ∷ l, end) ≡ x) → x ≡ t
-  items-stop m inv a next e x h =
-      let (k, en, sa) = ahead m inv a next e in
-      sym (h (atMost k r s next .0) (atMost k r s next .1)) ∙ sa
-
   -- no item more
   pub items-end : Items r G s t b i → r s i ≡ fail → G b ([], i) ≡ t
   items-end inv e = ap (G b) (sym (none-at r s i e (inv .fuel))) ∙ inv .same

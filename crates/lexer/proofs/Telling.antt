@@ -3,13 +3,9 @@ use Prim.Native.Nat.{ℕ, _+_, _*_, _<_}
 use native.Mathlib.Omega.{arith}
 use mathlib.Core.Path.{_≡_, refl, sym, _∙_, subst}
 use mathlib.Core.Logic.{_⊎_, inl, inr}
-use mathlib.Core.Bool.{Bool, true, false, _&&_}
 use mathlib.Core.List.{List, [], _∷_, List·Memᴰ, List·Memᴰ·head, List·Memᴰ·tail, Memᴰ·append-left, Memᴰ·append-right}
-use lib.Dec.{T, eqb, eqb→eq, eqb-refl}
 use lib.ListN.{length, take, drop, length-take, length-drop, take-append-drop}
-use Rattle.model.specs.Bytes.{Letter, Digit, Name, IsName, sameName}
-use Rattle.model.proofs.Laws.{and-l, and-r, and-i}
-use Rattle.model.proofs.Values.{same-eq, same-refl}
+use Rattle.model.specs.Bytes.{Letter, Digit, Name, IsName}
 use Rattle.lexer.specs.Words.{packedFrom, high, low}
 
 abbrev pub EachByte : List ℕ → Type 0
@@ -48,34 +44,3 @@ told w v p q l h o =
     let b : drop 8 w ≡ drop 8 v =
     packed-same (drop 8 w) (drop 8 v) 0 0 (back 8 w p) (back 8 v q) (omega (arith, length-drop 8 w, length-drop 8 v)) o .1 in
     sym (take-append-drop 8 w) ∙ cc (f, b, take-append-drop 8 v)
-
--- two tests that imply each other
-both-ways : (a b : Bool) → (T a → T b) → (T b → T a) → a ≡ b
-both-ways true true f g = refl
-both-ways true false f g = absurd (f tt)
-both-ways false true f g = absurd (g tt)
-both-ways false false f g = refl
-
--- three equations, as one test
-all-equal : (a b c d e f : ℕ) → T (eqb a b && (eqb c d && eqb e f)) → (a ≡ b) × (c ≡ d) × (e ≡ f)
-all-equal a b c d e f t =
-    let r = and-r (eqb a b) (eqb c d && eqb e f) t in
-    (eqb→eq a b (and-l (eqb a b) (eqb c d && eqb e f) t), eqb→eq c d (and-l (eqb c d) (eqb e f) r), eqb→eq e f (and-r (eqb c d) (eqb e f) r))
-
-equal-all : (a c e : ℕ) → T (eqb a a && (eqb c c && eqb e e))
-equal-all a c e = and-i (eqb a a) (eqb c c && eqb e e) (eqb-refl a) (and-i (eqb c c) (eqb e e) (eqb-refl c) (eqb-refl e))
-
-abbrev tests : Name → Name → Bool
-tests w v = eqb (length w) (length v) && (eqb (high w) (high v) && eqb (low w) (low v))
-
--- whether two names are the same, by their lengths and their numbers
-pub same-told : (w v : Name) → EachByte w → EachByte v → sameName w v ≡ (eqb (length w) (length v) && (eqb (high w) (high v) && eqb (low w) (low v)))
-same-told w v p q = both-ways (sameName w v) (tests w v) there back-again
-  where
-    there : T (sameName w v) → T (tests w v)
-    there t = subst (λ (u : Name). T (tests w u)) (same-eq w v t) (equal-all (length w) (high w) (low w))
-
-    back-again : T (tests w v) → T (sameName w v)
-    back-again t =
-        let (l, h, o) = all-equal (length w) (length v) (high w) (high v) (low w) (low v) t in
-        subst (λ (u : Name). T (sameName w u)) (told w v p q l h o) (same-refl w)

@@ -17,7 +17,7 @@ use Rattle.lexer.proofs.Loops.{Items, items-none, items-more, items-end}
 use Rattle.lexer.proofs.Moves.{moves-spaced-name, spaced-name-step}
 use Rattle.lines.specs.Rows.{row, spots}
 use Rattle.lines.specs.Lines.{namesFrom, eventsRows, noEvents, asEvents}
-use Rattle.lines.specs.Marking.{asNames, Long}
+use Rattle.lines.specs.Marking.{asNames, FullRows}
 use Rattle.lines.specs.declared.Names.{Names}
 
 -- where the loop stands: how many names it has, its position in the text, and the rows
@@ -45,16 +45,16 @@ abbrev pub filling : ℕ → ℕ → List ℕ → List ℕ → List ℕ → List
 filling count place spot long first others =
     record { count = count; place = place; spot = spot; long = long; first = first; others = others }
 
-abbrev AllLong : Filling → Type 0
-AllLong b = Long (b .spot) (b .long) (b .first) (b .others)
+abbrev AllFull : Filling → Type 0
+AllFull b = FullRows (b .spot) (b .long) (b .first) (b .others)
 
 -- the loop began with a and has b: with the names that lie ahead it has what a has with all names
 pub record Naming (s : List ℕ) (a b : Filling) : Type 0 where
   pub items : Items spacedName filled s (filled a (many spacedName s (a .place))) b (b .place)
-  pub rows : AllLong b
+  pub rows : AllFull b
   pub counted : b .count ≤ b .place
 
-pub names-start : {s : List ℕ} {a : Filling} → a .count ≡ 0 → AllLong a → Naming s a a
+pub names-start : {s : List ℕ} {a : Filling} → a .count ≡ 0 → AllFull a → Naming s a a
 names-start {s} {a} z r = record { items = items-none spacedName filled s a (a .place); rows = r; counted = omega arith }
 
 module _ {s : List ℕ} {a b : Filling} (inv : Naming s a b) where
@@ -85,10 +85,10 @@ module _ {s : List ℕ} {a b : Filling} (inv : Naming s a b) where
           items = items-more moves-spaced-name (inv .items) (g .name) next (g .read) stored more;
           rows =
               record {
-                first = simp length-set (inv .rows .first);
-                second = simp length-set (inv .rows .second);
-                third = simp length-set (inv .rows .third);
-                fourth = simp length-set (inv .rows .fourth);
+                spots-full = simp length-set (inv .rows .spots-full);
+                lens-full = simp length-set (inv .rows .lens-full);
+                highs-full = simp length-set (inv .rows .highs-full);
+                lows-full = simp length-set (inv .rows .lows-full);
               };
           counted = omega (arith, step);
         }
@@ -97,10 +97,10 @@ module _ {s : List ℕ} {a b : Filling} (inv : Naming s a b) where
     pub names-past : 64 ≤ b .count → Naming s a (filling (b .count + 1) next (b .spot) (b .long) (b .first) (b .others))
     names-past out =
         rw (
-          set-out (b .spot) (b .count) (next - l) (omega (arith, inv .rows .first)),
-          set-out (b .long) (b .count) l (omega (arith, inv .rows .second)),
-          set-out (b .first) (b .count) h (omega (arith, inv .rows .third)),
-          set-out (b .others) (b .count) w (omega (arith, inv .rows .fourth)),
+          set-out (b .spot) (b .count) (next - l) (omega (arith, inv .rows .spots-full)),
+          set-out (b .long) (b .count) l (omega (arith, inv .rows .lens-full)),
+          set-out (b .first) (b .count) h (omega (arith, inv .rows .highs-full)),
+          set-out (b .others) (b .count) w (omega (arith, inv .rows .lows-full)),
         ) at names-more
 
   -- no name is left: what the code promises of its answer and of its rows
@@ -149,7 +149,7 @@ module _ (s : List ℕ) (at a : ℕ) {r : Names} (e : litBytes (bytes "(events")
       → long ≡ row 64 0 (map length (many spacedName s a .0))
       → first ≡ row 64 0 (map high (many spacedName s a .0))
       → others ≡ row 64 0 (map low (many spacedName s a .0))
-      → record { formed = true; count = r .count; at = spot; «len» = long; «high» = first; «low» = others; next = next } ≡ asEvents at (eventsLine s at)
+      → record { formed = true; count = r .count; spot = spot; «len» = long; «high» = first; «low» = others; next = next } ≡ asEvents at (eventsLine s at)
   unfolding asEvents eventsRows namesFrom asNames
   events-are h p l f o =
       let m : at + 7 ≡ a = sym (lit-sound (bytes "(events") s at tt a e .moved) in

@@ -13,7 +13,7 @@ use Rattle.model.specs.Lists.{every, exists, index, elem, count, lowest}
 use Rattle.model.specs.Machine.{Place, placeIn}
 use Rattle.model.proofs.Laws.{dec, order, T-true, T-false, and-l, and-r, Lowest, found, absent, lowest-view}
 use Rattle.lines.specs.Rows.{orNoState, placeMark, placeRow}
-use Rattle.lines.specs.Lines.{allBelow, withinLimits, duplicateMark}
+use Rattle.lines.specs.Lines.{allBelow, hasRow, duplicateMark}
 use Rattle.lines.specs.Marking.{Marking, marked, markedAll, markedPlaces, upTo64}
 use Rattle.lines.proofs.Rows.{length-placeRow, getD-placeRow}
 
@@ -325,9 +325,9 @@ pub record Unmarked (m : Marking) : Type 0 where
   pub free : (y : ℕ) → y < 256 → getD (m .row) y 0 ≡ 255
 
 -- places within their limits
-module _ (n : ℕ) (ps : List Place) (h : n ≤ 256) (within : withinLimits n ps ≡ true) where
+module _ (n : ℕ) (ps : List Place) (h : n ≤ 256) (within : hasRow n ps ≡ true) where
   pub filled-places : {m : Marking} → Unmarked m → markedPlaces n 0 m ps ≡ record { declared = true; duplicate = duplicateMark n ps; row = placeRow ps }
-  unfolding withinLimits duplicateMark placeMark every elem exists
+  unfolding hasRow duplicateMark placeMark every elem exists
   filled-places {m} u =
       let fits : T (leb (length ps) 64 && allBelow n ps) = rw within tt in
       let all = and-r (leb (length ps) 64) (allBelow n ps) fits in

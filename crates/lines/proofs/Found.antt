@@ -17,7 +17,7 @@ use Rattle.lexer.specs.declared.Word.the-variants.{Missing, Found}
 use Rattle.lexer.specs.Words.{high, low}
 use Rattle.lexer.proofs.Moves.{spaced-name-sound}
 use Rattle.lines.specs.Rows.{placeRow}
-use Rattle.lines.specs.Lines.{asStates, namesFrom, eventsRows, noEvents, asEvents, asStep, duplicateMark, allBelow, withinLimits, withoutRow, noMachine, machineRow, asMachine}
+use Rattle.lines.specs.Lines.{asStates, namesFrom, eventsRows, noEvents, asEvents, asStep, duplicateMark, allBelow, hasRow, withoutRow, noMachine, machineRow, asMachine}
 use Rattle.lines.specs.declared.EventsLine.{EventsLine}
 use Rattle.lines.specs.declared.StepWords.{StepWords}
 use Rattle.lines.specs.declared.StepLine.{StepLine}
@@ -158,8 +158,8 @@ pub record GotMachine (n : ℕ) (o : Parsed Line) (r : MachineLine) : Type 0 whe
 
 module _ (n : ℕ) (ps : List Place) (k : ℕ) {o : Parsed Line} (e : o ≡ got (machine ps) k) where
   -- within its limits or not
-  by-limits : (b : Bool) → withinLimits n ps ≡ b → GotMachine n o (cond b (machineRow n ps k) (withoutRow true (length ps) (allBelow n ps) k))
-  unfolding withinLimits machineRow withoutRow
+  by-limits : (b : Bool) → hasRow n ps ≡ b → GotMachine n o (cond b (machineRow n ps k) (withoutRow true (length ps) (allBelow n ps) k))
+  unfolding hasRow machineRow withoutRow
   by-limits true h =
       record {
         listed = ps;
@@ -171,7 +171,7 @@ module _ (n : ℕ) (ps : List Place) (k : ℕ) {o : Parsed Line} (e : o ≡ got 
         row-is = λ _ _. refl;
       }
   by-limits false h =
-      let out : length ps ≤ 64 → allBelow n ps ≡ true → ⊥ = λ l a. let w : withinLimits n ps ≡ true = rw (le-leb (length ps) 64 l, a) in other h w in
+      let out : length ps ≤ 64 → allBelow n ps ≡ true → ⊥ = λ l a. let w : hasRow n ps ≡ true = rw (le-leb (length ps) 64 l, a) in other h w in
       record {
         listed = ps;
         read = e;
@@ -185,7 +185,7 @@ module _ (n : ℕ) (ps : List Place) (k : ℕ) {o : Parsed Line} (e : o ≡ got 
 module _ (n : ℕ) (s : List ℕ) (at : ℕ) {r : MachineLine} (p : r ≡ asMachine n (machineLine s at)) where
   given : (ps : List Place) (k : ℕ) → machineLine s at ≡ got (machine ps) k → GotMachine n (machineLine s at) r
   unfolding asMachine
-  given ps k e = subst (GotMachine n (machineLine s at)) (sym (p ∙ ap (asMachine n) e)) (by-limits n ps k e (withinLimits n ps) refl)
+  given ps k e = subst (GotMachine n (machineLine s at)) (sym (p ∙ ap (asMachine n) e)) (by-limits n ps k e (hasRow n ps) refl)
 
   pub machine-got : r .formed ≡ true → GotMachine n (machineLine s at) r
   unfolding asMachine noMachine withoutRow

@@ -12,7 +12,7 @@ use Rattle.model.specs.Reading.{Parsed, fail, got, after, litBytes, many}
 use Rattle.model.specs.Form.{Line, machine, place, machineLine}
 use Rattle.model.proofs.Laws.{and-l}
 use Rattle.lexer.proofs.Loops.{many-more, many-none}
-use Rattle.lines.specs.Lines.{allBelow, withinLimits, withoutRow, noMachine, machineRow, asMachine}
+use Rattle.lines.specs.Lines.{allBelow, hasRow, withoutRow, noMachine, machineRow, asMachine}
 use Rattle.lines.specs.Marking.{Marking, PlacesFound, PlacesRead}
 use Rattle.lines.specs.declared.Marks.{Marks}
 use Rattle.lines.specs.declared.Places.{Places}
@@ -129,8 +129,8 @@ module _ {n : ℕ} {s : List ℕ} {at count : ℕ} {marks : Marks} {row : List �
   formed = closed (l .places) (l .some) (l .read)
 
   -- the code's test is the definition's
-  limits : (leb count 64 && marks .declared) ≡ withinLimits n all
-  unfolding withinLimits
+  limits : (leb count 64 && marks .declared) ≡ hasRow n all
+  unfolding hasRow
   limits = λ i. leb (counted i) 64 && declares (l .places) i
 
   pub past : (leb count 64 && marks .declared) ≡ false → {r : MachineLine} → r ≡ withoutRow true count (marks .declared) next → r ≡ asMachine n (machineLine s at)
@@ -141,7 +141,7 @@ module _ {n : ℕ} {s : List ℕ} {at count : ℕ} {marks : Marks} {row : List �
       → record { formed = true; places = count; declared = marks .declared; duplicate = marks .duplicate; row = row; next = next } ≡ asMachine n (machineLine s at)
   unfolding asMachine machineRow
   placed u h =
-      let w : withinLimits n all ≡ true = sym limits ∙ h in
+      let w : hasRow n all ≡ true = sym limits ∙ h in
       let d : marks .declared ≡ true = and-eq-true-iff (leb count 64) (marks .declared) .0 h .1 in
       let f = l .places .found .rows ∙ filled-places n all u w (l .places .unmarked) in
       let e : machineRow n all next ≡ asMachine n (machineLine s at) = rw (formed, w) in

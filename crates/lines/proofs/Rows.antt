@@ -6,7 +6,7 @@ use mathlib.Core.Logic.{_⊎_, inl, inr}
 use mathlib.Core.List.{List, [], _∷_, _++_, map}
 use mathlib.Core.Option.{Option·none-ne-some, Option·some-injective}
 use lib.ListN.{length, getD, set, drop, replicate, length-append, length-map, length-replicate, List·getD-append}
-use lib.Seq.{sets, length-sets, sets-eq, getD-at}
+use lib.Seq.{sets, sets-eq, getD-at}
 use Rattle.model.specs.Lists.{At}
 use Rattle.model.specs.Machine.{Place}
 use Rattle.model.proofs.Laws.{below-suc}
@@ -22,10 +22,6 @@ module _ {A : Type 0} where
   sets-snoc l i vs v = sets-append l i vs (v ∷ [])
 
 module _ (n x : ℕ) (xs : List ℕ) where
-  pub length-row : length (row n x xs) ≡ n
-  unfolding row
-  length-row = length-sets (replicate n x) 0 xs ∙ length-replicate n x
-
   -- a value that was stored
   pub getD-row : (k d : ℕ) → k < length xs → length xs ≤ n → getD (row n x xs) k d ≡ getD xs k d
   unfolding row

@@ -26,7 +26,7 @@ asStates (got (events es) next) = Missing
 asStates (got (step a e b) next) = Missing
 asStates (got (machine ps) next) = Missing
 
--- the length of "(events", after which the names begin
+-- the position after "(events" at a position: the names begin there
 unfoldable pub namesFrom : ℕ → ℕ
 namesFrom at = at + 7
 
@@ -35,7 +35,7 @@ eventsRows formed at es next =
     record {
       formed = formed;
       count = length es;
-      at = row 64 0 (spots at es);
+      spot = row 64 0 (spots at es);
       «len» = row 64 0 (map length es);
       «high» = row 64 0 (map high es);
       «low» = row 64 0 (map low es);
@@ -59,7 +59,7 @@ asStep (got (events es) next) = S.Missing
 asStep (got (step a e b) next) = S.Found (record { source = a; «len» = length e; «high» = high e; «low» = low e; target = b; next = next })
 asStep (got (machine ps) next) = S.Missing
 
--- the lowest state below n that is listed twice
+-- the lowest state below n that is listed twice, or 256
 unfoldable pub duplicateMark : ℕ → List Place → ℕ
 duplicateMark n ps = orNoState (lowest (λ x. ltb 1 (count (eqb x) (flatten ps))) n)
 
@@ -67,10 +67,11 @@ duplicateMark n ps = orNoState (lowest (λ x. ltb 1 (count (eqb x) (flatten ps))
 unfoldable pub allBelow : ℕ → List Place → Bool
 allBelow n = every (every (λ x. ltb x n))
 
-unfoldable pub withinLimits : ℕ → List Place → Bool
-withinLimits n ps = leb (length ps) 64 && allBelow n ps
+-- the row is told
+unfoldable pub hasRow : ℕ → List Place → Bool
+hasRow n ps = leb (length ps) 64 && allBelow n ps
 
--- a line whose row is not told: none of its form, or one past its limits
+-- a line whose row is not told: none of its form, one with too many places, or one with a state that is not declared
 unfoldable pub withoutRow : Bool → ℕ → Bool → ℕ → MachineLine
 withoutRow formed places declared next =
     record { formed = formed; places = places; declared = declared; duplicate = 256; row = replicate 256 255; next = next }
@@ -82,11 +83,10 @@ unfoldable pub machineRow : ℕ → List Place → ℕ → MachineLine
 machineRow n ps next =
     record { formed = true; places = length ps; declared = true; duplicate = duplicateMark n ps; row = placeRow ps; next = next }
 
--- the line's row is told if it is within its limits
 unfoldable pub asMachine : ℕ → Parsed Line → MachineLine
 asMachine n fail = noMachine
 asMachine n (got (states k) next) = noMachine
 asMachine n (got (events es) next) = noMachine
 asMachine n (got (step a e b) next) = noMachine
 asMachine n (got (machine ps) next) =
-    cond (withinLimits n ps) (machineRow n ps next) (withoutRow true (length ps) (allBelow n ps) next)
+    cond (hasRow n ps) (machineRow n ps next) (withoutRow true (length ps) (allBelow n ps) next)

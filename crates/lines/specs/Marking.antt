@@ -19,12 +19,12 @@ use Rattle.lines.specs.declared.Places.the-variants as M
 unfoldable pub asNames : List Name × ℕ → Names
 asNames r = record { count = length (r .0); next = r .1 }
 
--- the four rows of an events line have all their entries
-pub record Long (a b c d : List ℕ) : Type 0 where
-  pub first : length a ≡ 64
-  pub second : length b ≡ 64
-  pub third : length c ≡ 64
-  pub fourth : length d ≡ 64
+-- the rows of an events line have all their entries
+pub record FullRows (spots lens highs lows : List ℕ) : Type 0 where
+  pub spots-full : length spots ≡ 64
+  pub lens-full : length lens ≡ 64
+  pub highs-full : length highs ≡ 64
+  pub lows-full : length lows ≡ 64
 
 -- a machine's row so far, whether all its states are declared, and the lowest that was listed twice
 pub record Marking : Type 0 where
@@ -82,7 +82,7 @@ pub record PlacesFound (n : ℕ) (m : Marking) (r : List Place × ℕ) (count : 
   pub ends : next ≡ r .1
   pub rows : marking marks row ≡ markedPlaces n 0 m (r .0)
 
--- what reading all places of a line answers and leaves in the row; after the places that have their form stands another
+-- what reading all places of a line answers and leaves in the row; broken: after those of their form stands a bracket that opens no place
 unfoldable pub PlacesRead : ℕ → Marking → List ℕ → List Place × ℕ → L.Places → List ℕ → Type 0
 PlacesRead n m s r M.Broken row = starts (bytes " (") (drop (r .1) s) ≡ true
 PlacesRead n m s r (M.Found count marks next) row = PlacesFound n m r count marks next row

@@ -30,7 +30,7 @@ placeMark ps x = cond (elem x (flatten ps)) (placeIn ps x) 255
 unfoldable pub placeRow : List Place → List ℕ
 placeRow ps = tabulate (placeMark ps) 256
 
--- a state, or the number that no state has
+-- a state, or 256: a number that no state has
 unfoldable pub orNoState : Option ℕ → ℕ
 orNoState none = 256
 orNoState (some x) = x

@@ -11,7 +11,7 @@ ghost use Rattle.model.specs.Form.{statesLine, eventsLine, stepLine, machineLin
 ghost use Rattle.lexer.specs.Words as Words;
 ghost use Rattle.lines.specs.Rows.{spots};
 ghost use Rattle.lines.specs.Lines.{asStates, asEvents, asStep, asMachine, noEvents, withoutRow};
-ghost use Rattle.lines.specs.Marking.{asNames, Long, marking, marked, markedAll, upTo64, opened, PlaceRead, PlacesRead};
+ghost use Rattle.lines.specs.Marking.{asNames, FullRows, marking, marked, markedAll, upTo64, opened, PlaceRead, PlacesRead};
 use lexer::NameWord;
 use lexer::Word;
 use lexer::read_figure;
@@ -22,14 +22,14 @@ use lexer::read_spaced_name;
 // The mark of a state that is in no place.
 pub const UNPLACED: u8 = 255;
 
-// The number that no state has.
+// A number that no state has.
 pub const NO_STATE: usize = 256;
 
 // An events line: how many names, and for each of the first 64 its position in the text, its length, and its bytes as two numbers.
 pub struct EventsLine {
     pub formed: bool,
     pub count: usize,
-    pub at: [usize; 64],
+    pub spot: [usize; 64],
     pub len: [usize; 64],
     pub high: [u64; 64],
     pub low: [u64; 64],
@@ -51,8 +51,8 @@ pub enum StepLine {
     Found(StepWords),
 }
 
-// A machine line: how many places, whether all its states are declared; and if it is within its limits, the lowest state that it lists twice and the
-// place of each state.
+// A machine line: how many places, and whether all its states are declared. With at most 64 places and all states declared also the lowest state that it
+// lists twice, or NO_STATE, and in a row the place of each state, or UNPLACED.
 pub struct MachineLine {
     pub formed: bool,
     pub places: usize,
@@ -84,7 +84,7 @@ struct Names {
     next: usize,
 }
 
-// The names that go on an events line at a position, into rows.
+// The names from a position on, each after a space, into rows.
 fn read_names(
     s: &[u8],
     at: usize,
@@ -93,7 +93,7 @@ fn read_names(
     high: &mut [u64; 64],
     low: &mut [u64; 64],
 ) -> Names
-    requires { ⌜ Long (now spot) (now «len») (now «high») (now «low») ⌝ }
+    requires { ⌜ FullRows (now spot) (now «len») (now «high») (now «low») ⌝ }
     ensures { λ r. ⌜ r ≡ asNames (many spacedName (now (s .entry)) at) ⌝ }
     ensures { λ r. ⌜ now (spot .exit) ≡ sets (now (spot .entry)) 0 (spots at (many spacedName (now (s .entry)) at .0)) ⌝ }
     ensures { λ r. ⌜ now («len» .exit) ≡ sets (now («len» .entry)) 0 (map length (many spacedName (now (s .entry)) at .0)) ⌝ }
@@ -129,7 +129,7 @@ fn no_events() -> EventsLine
     EventsLine {
         formed: false,
         count: 0,
-        at: [0usize; 64],
+        spot: [0usize; 64],
         len: [0usize; 64],
         high: [0u64; 64],
         low: [0u64; 64],
@@ -137,7 +137,7 @@ fn no_events() -> EventsLine
     }
 }
 
-// The events line at a position.
+// The events line at a position. All names count, and the first 64 have their rows.
 pub fn read_events(s: &[u8], at: usize) -> EventsLine
     ensures { λ r. ⌜ r ≡ asEvents at (eventsLine (now (s .entry)) at) ⌝ }
 {
@@ -157,7 +157,7 @@ pub fn read_events(s: &[u8], at: usize) -> EventsLine
     EventsLine {
         formed: true,
         count,
-        at: spot,
+        spot,
         len,
         high,
         low,
@@ -165,7 +165,7 @@ pub fn read_events(s: &[u8], at: usize) -> EventsLine
     }
 }
 
-// The step line at a position.
+// The step line at a position, its event still by name.
 pub fn read_step(s: &[u8], at: usize) -> StepLine
     ensures { λ r. ⌜ r ≡ asStep (stepLine (now (s .entry)) at) ⌝ }
 {
@@ -244,7 +244,7 @@ struct MarksAt {
     next: usize,
 }
 
-// The states that go on a place, each after a space.
+// The other states of a place, each after a space.
 fn mark_states(s: &[u8], at: usize, row: &mut [u8; 256], n: usize, p: u8, m: Marks) -> MarksAt
     requires { ⌜ n ≤ 256 ⌝ }
     ensures { λ r. ⌜ r .next ≡ many spacedFigure (now (s .entry)) at .1 ⌝ }
@@ -285,7 +285,7 @@ fn mark_place(s: &[u8], at: usize, row: &mut [u8; 256], n: usize, p: u8, m: Mark
     PlaceAt::Found { marks, next }
 }
 
-// The number of a place; 64 for each past the limit.
+// The number of a place. Past the limit any but UNPLACED serves, since the row is dropped.
 fn place_number(k: usize) -> u8
     ensures { λ r. ⌜ r ≡ upTo64 k ⌝ }
 {
@@ -327,7 +327,7 @@ fn mark_places(s: &[u8], at: usize, row: &mut [u8; 256], n: usize, m: Marks) -> 
     }
 }
 
-// A machine line that is read without its row: none of its form, or one past its limits.
+// A machine line whose row is not told: none of its form, one with too many places, or one with a state that is not declared.
 fn without_row(formed: bool, places: usize, declared: bool, next: usize) -> MachineLine
     ensures { λ r. ⌜ r ≡ withoutRow formed places declared next ⌝ }
 {
@@ -341,8 +341,8 @@ fn without_row(formed: bool, places: usize, declared: bool, next: usize) -> Mach
     }
 }
 
-// So many places, whose states are declared or not, are within a machine's limits.
-fn within_limits(places: usize, declared: bool) -> bool
+// The row of a machine line is told.
+fn has_row(places: usize, declared: bool) -> bool
     ensures { λ r. ⌜ r ≡ (leb places 64 && declared) ⌝ }
 {
     if places <= 64 {
@@ -362,7 +362,7 @@ pub fn read_machine(s: &[u8], at: usize, n: usize) -> MachineLine
     let mut row = [UNPLACED; 256];
     let declared = true;
     let duplicate = NO_STATE;
-    let none = Marks {
+    let start = Marks {
         declared,
         duplicate,
     };
@@ -370,7 +370,7 @@ pub fn read_machine(s: &[u8], at: usize, n: usize) -> MachineLine
         count,
         marks,
         next: end,
-    } = mark_places(s, a, &mut row, n, none)
+    } = mark_places(s, a, &mut row, n, start)
     else {
         return without_row(false, 0, false, 0);
     };
@@ -382,7 +382,7 @@ pub fn read_machine(s: &[u8], at: usize, n: usize) -> MachineLine
     };
     let declared = marks.declared;
     let duplicate = marks.duplicate;
-    if !within_limits(count, declared) {
+    if !has_row(count, declared) {
         return without_row(true, count, declared, next);
     }
     MachineLine {

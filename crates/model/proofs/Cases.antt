@@ -22,7 +22,8 @@ caseOf r = from 1 (C.Malformed a)
     (from 10 (C.NotARegion a b)
     (from 11 (C.IneffectiveEvent a)
     (from 12 (C.NotExcitationClosed a b)
-    (from 13 (C.BufferTooShort a) (C.UnknownEvent a)))))))))))))
+    (from 13 (C.BufferTooShort a)
+    (from 14 (C.UnknownEvent a) (C.Malformed 0))))))))))))))
   where
     a : ℕ
     a = r .detail

@@ -1,5 +1,4 @@
 -- The number and the details that document 01's table gives each refusal of the code.
-use Prim.Native.Nat.{ℕ}
 use Rattle.model.specs.declared.Refusal.the-variants as C
 use Rattle.model.specs.declared.Refusal as D
 use Rattle.model.specs.Refusal.{Refusal, refuse}

@@ -127,10 +127,9 @@ fn answer(text: &[u8]) {
 }
 
 fn size(hi: u8, lo: u8) -> usize
-    ensures { λ r. ⌜ r ≤ 40000 ⌝ }
+    ensures { λ r. ⌜ r ≤ 65535 ⌝ }
 {
-    let n = wide(hi) * 256 + wide(lo);
-    if n <= 40000 { n } else { 40000 }
+    wide(hi) * 256 + wide(lo)
 }
 
 // The next m bytes of the input, at the start of text.
@@ -148,7 +147,7 @@ fn one() -> bool {
         return false;
     }
     let m = size(head[0], head[1]);
-    let mut text = [0u8; 40000];
+    let mut text = [0u8; 65535];
     if !load(&mut text, m) {
         return false;
     }

@@ -6,7 +6,7 @@ use mathlib.Core.Bool.{true}
 use mathlib.Core.List.{List, [], _∷_, _++_, map, flatMap}
 use mathlib.Core.Option.{some}
 use lib.ListN.{length, take, replicate, length-append, length-map}
-use Rattle.model.specs.Refusal.{Refusal, Checked, refused, passed, refusalOf}
+use Rattle.model.specs.Refusal.{Refusal, Checked, refused, passed}
 use Rattle.model.specs.TransitionSystem.{Transition}
 use Rattle.model.specs.Machine.{Machine, duplicateState}
 use Rattle.model.specs.Bytes.{bytes, Name}
@@ -69,7 +69,7 @@ built n names k steps j machines =
       states = n;
       initial = 0;
       events = names .count;
-      «name_at» = names .at;
+      «name_at» = names .spot;
       «name_len» = names .«len»;
       transitions = k;
       source = steps .source;
@@ -135,8 +135,3 @@ module _ {c : Checked Input} {n : ℕ} {es : List Name} {names : EventsLine} {k 
       → Answers c (record { verdict = Passed; tables = built n names k steps j machines })
   unfolding verdictRefusal
   answers-passed ts ms e w p q o u = record { verdict = rw w; rows = rw (w, e .rows, p, q, o, u) (sym (tabled-value n es ts ms (names .next))) }
-
--- the same as the public contract has it
-pub refusing : {c : Checked Input} {q : Refusal} (r : Reading) → c ≡ refused q → (verdictRefusal (r .verdict) ≡ some q) × (r .tables ≡ noTables)
-    → (verdictRefusal (r .verdict) ≡ refusalOf c) × (r .tables ≡ tablesOf c)
-refusing r e p = let a = answers-refused {r = r} e (p .0) (p .1) in (a .verdict, a .rows)

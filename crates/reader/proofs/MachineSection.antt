@@ -42,11 +42,11 @@ pub record Machines (s : List ℕ) (n : ℕ) (es : List Name) (ts : List Named) 
 pub record SoFar (s : List ℕ) (at n line : ℕ) (before : MachineRows) (k i : ℕ) (now : MachineRows) : Type 0 where
   pub most : k ≤ 16
   pub states : n ≤ 256
-  pub early : line < 4096
+  pub early : line ≤ 1027
   pub so-far : (es : List Name) (ts : List Named) (c : Checked Input) → line ≡ 3 + length ts → stepLine s at ≡ fail → Rest s (begun n es ts) at c
       → Machines s n es ts c k i before now
 
-pub machines-start : {s : List ℕ} {at n line : ℕ} {before : MachineRows} → n ≤ 256 → line < 4096 → SoFar s at n line before 0 at before
+pub machines-start : {s : List ℕ} {at n line : ℕ} {before : MachineRows} → n ≤ 256 → line ≤ 1027 → SoFar s at n line before 0 at before
 unfolding withMachines flatMap
 machines-start h l =
     record {

@@ -25,7 +25,7 @@ use Rattle.lines.specs.declared.EventsLine.{EventsLine}
 use Rattle.lines.specs.Lines.{allBelow, eventsRows, namesFrom}
 use Rattle.lines.proofs.Found.{GotEvents}
 use Rattle.reader.specs.Sections.{Events, Rest, begun}
-use Rattle.reader.proofs.Rest.{leb-yes, leb-no, rest-start, rest-end, rest-fail, rest-none, before-end, rest-limit, rest-undeclared, rest-more}
+use Rattle.reader.proofs.Rest.{leb-yes, leb-no, rest-start, rest-end, rest-fail, rest-none, rest-limit, rest-undeclared, rest-more}
 
 -- a test that agrees with an order
 as-order : (b : Bool) (m n : ℕ) → (T b → m < n) → (T (not b) → n ≤ m) → b ≡ ltb m n
@@ -219,9 +219,6 @@ module _ {s : List ℕ} {n : ℕ} {es : List Name} {c : Checked Input} {at k lin
     module _ {ps : List Place} {next : ℕ} (g : machineLine s at ≡ got (machine ps) next) where
       machine-next : lineAfter (lines n es ts ms) s at ≡ got (machine ps) next
       machine-next = next-machine n es ts ms s at last ∙ g
-
-      pub machine-before : at < length s
-      machine-before = before-end r machine-next
 
       machine-over : inLimit (lines n es ts ms) (machine ps) ≡ false → c ≡ refused (refuse 2 (line + k) 0)
       machine-over d = rw machine-number at (rest-limit r machine-next d)

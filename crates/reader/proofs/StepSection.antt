@@ -92,7 +92,7 @@ module _ {s : List ℕ} {at n : ℕ} {line : EventsLine} {before : TransitionRow
     z .most,
     λ es c m r.
         let t = z .so-far es c m r in
-        record { steps = t .steps; rest = t .rest; last = f; counted = t .counted; most = z .most; rows = t .rows },
+        record { steps = t .steps; rest = t .rest; last = f; counted = t .counted; rows = t .rows },
   )
 
   -- the step line that stands next is refused

@@ -2,7 +2,7 @@
 use Prim.Native.Nat.{ℕ, zero, suc, _+_, _*_, _<_, _≤_}
 use native.Mathlib.Omega.{arith}
 use borrow.Author.Tests.{ne-eqb}
-use mathlib.Core.Path.{_≡_, refl, ap, _∙_}
+use mathlib.Core.Path.{_≡_, refl, ap, sym, _∙_, subst}
 use mathlib.Core.Logic.{_⊎_, inl, inr}
 use mathlib.Core.Bool.{Bool, not, cond}
 use mathlib.Core.List.{List, [], _∷_, map, flatMap, flatten}
@@ -11,7 +11,7 @@ use lib.Dec.{T}
 use lib.ListN.{length, getD, take, List·getD-append}
 use lib.Seq.{take-suc, take-length, getD-append-add}
 use Rattle.model.specs.Lists.{At, elem, lowest}
-use Rattle.model.specs.Refusal.{passed}
+use Rattle.model.specs.Refusal.{passed, refusalOf}
 use Rattle.model.specs.TransitionSystem.{Transition}
 use Rattle.model.specs.Machine.{Place, Machine, duplicateState}
 use Rattle.model.specs.Machine as M
@@ -24,8 +24,9 @@ use Rattle.model.proofs.Verdicts.{read-iff}
 use Rattle.lines.specs.Rows.{row, tabulate, placeMark, orNoState}
 use Rattle.lines.proofs.Rows.{getD-row, row-at, getD-tabulate, length-tabulate, getD-placeRow, length-placeRow}
 use Rattle.reader.specs.declared.Tables.{Tables}
-use Rattle.reader.specs.Tables.{tablesOf}
-use Rattle.reader.specs.Told.{entry, transitionsIn, systemIn, nameIn, unless, placeIn, duplicateIn, MachineTold, Told}
+use Rattle.reader.specs.declared.Reading.{Reading}
+use Rattle.reader.specs.Tables.{verdictRefusal, tablesOf, Answers}
+use Rattle.reader.specs.Told.{entry, firstTransitions, systemOf, nameOf, orNone, placeAt, duplicateAt, MachineTold, Told}
 use Rattle.reader.proofs.MachineSection.{rowOf, length-rows}
 
 -- ---- marks as options
@@ -35,19 +36,19 @@ place-below : (ps : List Place) (x : ℕ) → T (elem x (flatten ps)) → M.plac
 unfolding M.placeIn
 place-below ps x t = let h = home ps x t in index-below (elem x) ps (exists-intro (elem x) ps (h .place) (h .listed) (h .holds))
 
-place-option : (ps : List Place) (x : ℕ) → length ps ≤ 64 → unless 255 (placeMark ps x) ≡ cond (elem x (flatten ps)) (some (M.placeIn ps x)) none
-unfolding unless placeMark
+place-option : (ps : List Place) (x : ℕ) → length ps ≤ 64 → orNone 255 (placeMark ps x) ≡ cond (elem x (flatten ps)) (some (M.placeIn ps x)) none
+unfolding orNone placeMark
 place-option ps x h = go (dec (elem x (flatten ps)))
   where
-    go : T (elem x (flatten ps)) ⊎ T (not (elem x (flatten ps))) → unless 255 (placeMark ps x) ≡ cond (elem x (flatten ps)) (some (M.placeIn ps x)) none
+    go : T (elem x (flatten ps)) ⊎ T (not (elem x (flatten ps))) → orNone 255 (placeMark ps x) ≡ cond (elem x (flatten ps)) (some (M.placeIn ps x)) none
     go (inl t) = rw (T-true (elem x (flatten ps)) t, ne-eqb (M.placeIn ps x) 255 (λ e. omega (arith, place-below ps x t)))
     go (inr t) = rw (T-false (elem x (flatten ps)) t)
 
-state-option : (f : ℕ → Bool) (n : ℕ) → n ≤ 256 → unless 256 (orNoState (lowest f n)) ≡ lowest f n
-unfolding unless orNoState
+state-option : (f : ℕ → Bool) (n : ℕ) → n ≤ 256 → orNone 256 (orNoState (lowest f n)) ≡ lowest f n
+unfolding orNone orNoState
 state-option f n h = go (lowest-view f n)
   where
-    go : Lowest f n → unless 256 (orNoState (lowest f n)) ≡ lowest f n
+    go : Lowest f n → orNone 256 (orNoState (lowest f n)) ≡ lowest f n
     go (found k q b t u) = rw (q, ne-eqb k 256 (λ e. omega arith))
     go (absent q u) = rw q
 
@@ -68,8 +69,8 @@ abbrev tables : Input → Tables
 tables v = tablesOf (passed v)
 
 module _ (v : Input) (l : Limits v) where
-  transitions-told : (k : ℕ) → k ≤ length (v .transitions) → transitionsIn (tables v) k ≡ take k (v .transitions)
-  unfolding transitionsIn tablesOf
+  transitions-told : (k : ℕ) → k ≤ length (v .transitions) → firstTransitions (tables v) k ≡ take k (v .transitions)
+  unfolding firstTransitions tablesOf
   transitions-told zero h = refl
   transitions-told (suc k) h =
       let ts = v .transitions in
@@ -77,34 +78,37 @@ module _ (v : Input) (l : Limits v) where
       let same : (f : Transition → ℕ) → entry (row 1024 0 (map f ts)) k ≡ f t = λ f. row-at f 1024 0 ts k t 0 (l .transitions-most) a in
       rw (take-suc ts k t, at-value ts k t t a, transitions-told k (omega arith), same (λ u. u .source), same (λ u. u .event), same (λ u. u .target))
 
-  system-told : systemIn (tables v) ≡ system v
-  unfolding systemIn tablesOf
+  system-told : systemOf (tables v) ≡ system v
+  unfolding systemOf tablesOf
   system-told = rw (transitions-told (length (v .transitions)) (omega arith), take-length (v .transitions))
 
-  name-told : (e : ℕ) → e < length (v .names) → nameIn (write v) (tables v) e ≡ getD (v .names) e []
-  unfolding nameIn tablesOf
-  name-told e h =
+  name-placed : (e : ℕ) → e < length (v .names) → entry (tables v .«name_at») e ≡ nameAt v e
+  unfolding tablesOf
+  name-placed e h =
       let n = length (v .names) in
+      getD-row 64 0 (tabulate (nameAt v) n) e 0 (omega (arith, length-tabulate (nameAt v) n)) (omega (arith, length-tabulate (nameAt v) n, l .names-most))
+      ∙ getD-tabulate (nameAt v) n e 0 h
+
+  name-told : (e : ℕ) → e < length (v .names) → nameOf (write v) (tables v) e ≡ getD (v .names) e []
+  unfolding nameOf tablesOf
+  name-told e h =
       let w = getD (v .names) e [] in
       let a : At (v .names) e w = at-getD (v .names) e [] h in
       let size : entry (row 64 0 (map length (v .names))) e ≡ length w = row-at length 64 0 (v .names) e w 0 (l .names-most) a in
-      let spot : entry (row 64 0 (tabulate (nameAt v) n)) e ≡ nameAt v e =
-      getD-row 64 0 (tabulate (nameAt v) n) e 0 (omega (arith, length-tabulate (nameAt v) n)) (omega (arith, length-tabulate (nameAt v) n, l .names-most))
-      ∙ getD-tabulate (nameAt v) n e 0 h in
-      rw (size, spot) (name-part v e w a)
+      rw (size, name-placed e h) (name-part v e w a)
 
   machine-told : (k : ℕ) (m : Machine) → At (v .machines) k m → MachineTold v (tables v) k m
-  unfolding duplicateIn placeIn duplicateState tablesOf
+  unfolding duplicateAt placeAt duplicateState tablesOf
   machine-told k m a =
       let ms = v .machines in
       let b : k < length ms = at-below ms k m a in
       record {
         places = row-at (λ (u : Machine). length (u .places)) 16 0 ms k m 0 (l .machines-most) a;
         duplicate =
-            ap (unless 256) (row-at (λ (u : Machine). orNoState (duplicateState (system v) u)) 16 256 ms k m 0 (l .machines-most) a)
+            ap (orNone 256) (row-at (λ (u : Machine). orNoState (duplicateState (system v) u)) 16 256 ms k m 0 (l .machines-most) a)
             ∙ state-option _ (v .states) (l .states-most);
         place = λ x h.
-            ap (unless 255)
+            ap (orNone 255)
             (getD-row 4096 255 (flatMap rowOf ms) (k * 256 + x) 0 (omega (arith, length-rows ms)) (omega (arith, length-rows ms, l .machines-most))
             ∙ rows-at ms k m x 0 a h
             ∙ getD-placeRow (m .places) x 0 h)
@@ -114,8 +118,13 @@ module _ (v : Input) (l : Limits v) where
   value-told : Told (write v) v (tables v)
   unfolding tablesOf
   value-told =
-      record { tells-system = system-told; name = name-told; machines = refl; machine = machine-told }
+      record { tells-system = system-told; name-place = name-placed; name = name-told; machines = refl; machine = machine-told }
 
 -- what the tables tell of a text that passed is its value
 pub told : (s : List ℕ) (v : Input) → read s ≡ passed v → Told s v (tablesOf (read s))
 told s v e = let r = read-iff s v .0 e in rw (e, r .0) (value-told v (r .1))
+
+-- the public contract, from the answer
+pub answering : (s : List ℕ) (r : Reading) → Answers (read s) r
+    → (verdictRefusal (r .verdict) ≡ refusalOf (read s)) × ((r .tables ≡ tablesOf (read s)) × ((v : Input) → read s ≡ passed v → Told s v (r .tables)))
+answering s r a = (a .verdict, (a .rows, λ v e. subst (Told s v) (sym (a .rows)) (told s v e)))

@@ -81,7 +81,6 @@ pub record StepsFound (s : List ℕ) (n : ℕ) (es : List Name) (c : Checked Inp
   pub rest : Rest s (begun n es steps) next c
   pub last : stepLine s next ≡ fail
   pub counted : k ≡ length steps
-  pub most : k ≤ 1024
   pub rows : after ≡ withSteps es before steps
 
 unfoldable pub StepsRead : List ℕ → ℕ → List Name → Checked Input → Section → TransitionRows → TransitionRows → Type 0

@@ -7,12 +7,13 @@ ghost use Prim.Native.Nat.{_*_, _<_, _≤_};
 ghost use lib.Dec.{leb, ltb};
 ghost use lib.ListN.{length};
 ghost use lib.Seq.{sets};
-ghost use Rattle.model.specs.Refusal.{refusalOf};
+ghost use Rattle.model.specs.Refusal.{passed, refusalOf};
 ghost use Rattle.model.specs.Cases.{tabled};
 ghost use Rattle.model.specs.Bytes.{Name};
 ghost use Rattle.model.specs.Text as Text;
 ghost use Rattle.reader.specs.declared.Verdict.the-variants.{Passed};
 ghost use Rattle.reader.specs.Tables.{verdictRefusal, tablesOf, noTables};
+ghost use Rattle.reader.specs.Told.{Told};
 ghost use Rattle.reader.specs.Sections.{NameRows, Finds, countOf, ReadsSteps, transitionRows, ReadsMachines, machineRows, ReadsLast, ReadsLines};
 use lexer::Word;
 use lines::EventsLine;
@@ -31,7 +32,7 @@ pub enum Verdict {
     Passed,
 }
 
-// What a text holds, in rows. Document 01: a plan and its split.
+// What a text holds, in rows. Document 01: a plan and its split. An entry that is not in use is 0, in `duplicate` NO_STATE, in `place` UNPLACED.
 pub struct Tables {
     pub states: usize,
     pub initial: usize,
@@ -227,7 +228,7 @@ fn read_machines(
     duplicate: &mut [usize; 16],
     place: &mut [u8; 4096],
 ) -> Section
-    requires { ⌜ (n ≤ 256) × (line < 4096) ⌝ }
+    requires { ⌜ (n ≤ 256) × (line ≤ 1027) ⌝ }
     ensures { λ r. ⌜ ReadsMachines (now (s .entry)) at n line r (machineRows (now (sizes .entry)) (now (duplicate .entry)) (now (place .entry))) (machineRows (now (sizes .exit)) (now (duplicate .exit)) (now (place .exit))) ⌝ }
 {
     let mut k = 0;
@@ -287,7 +288,7 @@ fn with_machines(
     match read_machines(s, at, n, 3 + k, &mut sizes, &mut duplicate, &mut place) {
         Section::Refused(why) => refused(why),
         Section::Read { count, next: _ } => {
-            let name_at = names.at;
+            let name_at = names.spot;
             let name_len = names.len;
             passed(Tables {
                 states: n,
@@ -329,6 +330,7 @@ fn with_transitions(s: &[u8], n: usize, names: EventsLine) -> Reading
 pub fn read(text: &[u8]) -> Reading
     ensures { λ r. ⌜ verdictRefusal (r .verdict) ≡ refusalOf (Text.read (now (text .entry))) ⌝ }
     ensures { λ r. ⌜ r .tables ≡ tablesOf (Text.read (now (text .entry))) ⌝ }
+    ensures { λ r. ⌜ ((v : Text.Input) → Text.read (now (text .entry)) ≡ passed v → Told (now (text .entry)) v (r .tables)) ⌝ }
 {
     if 32768 < text.len() {
         return refused(Refusal::LimitExceeded { line: 0 });

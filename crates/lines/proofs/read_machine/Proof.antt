@@ -119,17 +119,17 @@ returns-4 c =
     (literal-missing _ (c .before .before .before .read-literal2 .ensures) (c .before .enum-told3 .given .1)))
     (c .without-row4 .ensures)
 
-within-limits-requires : tie.Need-within-limits-requires
-within-limits-requires c κs = search needs
+has-row-requires : tie.Need-has-row-requires
+has-row-requires c κs = search needs
 
 without-row-requires-5 : tie.Need-without-row-requires-5
 without-row-requires-5 c κs = search needs
 
 returns-5 : tie.Need-returns-5
-returns-5 c = past (ended (c .before .before .before .before)) (sym (c .before .before .within-limits .ensures) ∙ not-true _ (c .before .if2 .taken)) (c .without-row5 .ensures)
+returns-5 c = past (ended (c .before .before .before .before)) (sym (c .before .before .has-row .ensures) ∙ not-true _ (c .before .if2 .taken)) (c .without-row5 .ensures)
 
 returns-6 : tie.Need-returns-6
-returns-6 c = placed (ended (c .before .before .before)) (c .before .before .before .before .before .before .before .before .before .before .before .before .before .before .before .before .before .before .before .pre) (sym (c .before .within-limits .ensures) ∙ not-false _ (c .if2 .left))
+returns-6 c = placed (ended (c .before .before .before)) (c .before .before .before .before .before .before .before .before .before .before .before .before .before .before .before .before .before .before .before .pre) (sym (c .before .has-row .ensures) ∙ not-false _ (c .if2 .left))
 
 pub read-machine-spec : {M : Type 1} → statement M
 read-machine-spec =
@@ -154,7 +154,7 @@ read-machine-spec =
     enum-told-3
     without-row-requires-4
     returns-4
-    within-limits-requires
+    has-row-requires
     without-row-requires-5
     returns-5
     returns-6)

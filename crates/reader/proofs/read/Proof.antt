@@ -17,7 +17,8 @@ use Rattle.reader.specs.Sections.{Events, Rest, ReadsLines}
 use Rattle.reader.proofs.NameRows.{events-rows}
 use Rattle.reader.proofs.Rest.{too-long}
 use Rattle.reader.proofs.Phases.{states-fail, states-none, states-many, states-more, events-fail, events-many, events-twice, events-more, events-held}
-use Rattle.reader.proofs.Answering.{refusing}
+use Rattle.reader.proofs.Answering.{answers-refused}
+use Rattle.reader.proofs.Telling.{answering}
 use Rattle.reader.proofs.read.Statement.{statement}
 use Rattle.reader.proofs.read.Tie as tie
 
@@ -46,7 +47,7 @@ refused-requires c κs = search needs
 
 returns : tie.Need-returns
 unfolding tabled
-returns c = refusing _ (too-long _ (c .before .if1 .taken)) (c .refused .ensures)
+returns c = answering _ _ (answers-refused (too-long _ (c .before .if1 .taken)) (c .refused .ensures .0) (c .refused .ensures .1))
 
 read-states-requires : tie.Need-read-states-requires
 read-states-requires c κs = search needs
@@ -62,21 +63,21 @@ refused-requires-2 c κs = search needs
 
 returns-2 : tie.Need-returns-2
 unfolding tabled
-returns-2 c = refusing _ (states-fail _ (states-missing _ _ (c .before .before .before .read-states .ensures) (c .before .enum-told .given .1)) (c .before .before .before .before .if1 .left)) (c .refused2 .ensures)
+returns-2 c = answering _ _ (answers-refused (states-fail _ (states-missing _ _ (c .before .before .before .read-states .ensures) (c .before .enum-told .given .1)) (c .before .before .before .before .if1 .left)) (c .refused2 .ensures .0) (c .refused2 .ensures .1))
 
 refused-requires-3 : tie.Need-refused-requires-3
 refused-requires-3 c κs = search needs
 
 returns-3 : tie.Need-returns-3
 unfolding tabled
-returns-3 c = refusing _ (states-none _ (opened (c .before .before)) (c .before .before .before .before .before .before .if1 .left) (c .before .if2 .taken)) (c .refused3 .ensures)
+returns-3 c = answering _ _ (answers-refused (states-none _ (opened (c .before .before)) (c .before .before .before .before .before .before .if1 .left) (c .before .if2 .taken)) (c .refused3 .ensures .0) (c .refused3 .ensures .1))
 
 refused-requires-4 : tie.Need-refused-requires-4
 refused-requires-4 c κs = search needs
 
 returns-4 : tie.Need-returns-4
 unfolding tabled
-returns-4 c = refusing _ (states-many _ (opened (c .before .before .before)) (c .before .before .before .before .before .before .before .if1 .left) (c .before .if3 .taken)) (c .refused4 .ensures)
+returns-4 c = answering _ _ (answers-refused (states-many _ (opened (c .before .before .before)) (c .before .before .before .before .before .before .before .if1 .left) (c .before .if3 .taken)) (c .refused4 .ensures .0) (c .refused4 .ensures .1))
 
 read-events-requires : tie.Need-read-events-requires
 read-events-requires c κs = search needs
@@ -86,14 +87,14 @@ refused-requires-5 c κs = search needs
 
 returns-5 : tie.Need-returns-5
 unfolding tabled
-returns-5 c = refusing _ (events-fail (begun-text (c .before .before .before)) (events-missing _ _ (c .before .before .read-events .ensures) (not-true _ (c .before .if4 .taken)))) (c .refused5 .ensures)
+returns-5 c = answering _ _ (answers-refused (events-fail (begun-text (c .before .before .before)) (events-missing _ _ (c .before .before .read-events .ensures) (not-true _ (c .before .if4 .taken)))) (c .refused5 .ensures .0) (c .refused5 .ensures .1))
 
 refused-requires-6 : tie.Need-refused-requires-6
 refused-requires-6 c κs = search needs
 
 returns-6 : tie.Need-returns-6
 unfolding tabled
-returns-6 c = refusing _ (events-many (begun-text (c .before .before .before .before)) (listed (c .before .before) .read) (omega (arith, counted (c .before .before), c .before .if5 .taken))) (c .refused6 .ensures)
+returns-6 c = answering _ _ (answers-refused (events-many (begun-text (c .before .before .before .before)) (listed (c .before .before) .read) (omega (arith, counted (c .before .before), c .before .if5 .taken))) (c .refused6 .ensures .0) (c .refused6 .ensures .1))
 
 distinct-names-requires : tie.Need-distinct-names-requires
 distinct-names-requires c κs = search needs
@@ -103,16 +104,14 @@ refused-requires-7 c κs = search needs
 
 returns-7 : tie.Need-returns-7
 unfolding tabled
-returns-7 c = refusing _ (events-twice (begun-text (c .before .before .before .before .before .before .before .before .before .before)) (listed (c .before .before .before .before .before .before .before .before) .read) (held (c .before .before .before .before .before .before .before) .most) (sym (c .before .before .distinct-names .ensures _ (events-rows (held (c .before .before .before .before .before .before .before)))) ∙ not-true _ (c .before .if6 .taken))) (c .refused7 .ensures)
+returns-7 c = answering _ _ (answers-refused (events-twice (begun-text (c .before .before .before .before .before .before .before .before .before .before)) (listed (c .before .before .before .before .before .before .before .before) .read) (held (c .before .before .before .before .before .before .before) .most) (sym (c .before .before .distinct-names .ensures _ (events-rows (held (c .before .before .before .before .before .before .before)))) ∙ not-true _ (c .before .if6 .taken))) (c .refused7 .ensures .0) (c .refused7 .ensures .1))
 
 with-transitions-requires : tie.Need-with-transitions-requires
 with-transitions-requires c κs = search needs
 
 returns-8 : tie.Need-returns-8
 unfolding ReadsLines
-returns-8 c =
-    let a = c .with-transitions .ensures _ _ (held (c .before .before .before .before .before .before .before)) (events-more (begun-text (c .before .before .before .before .before .before .before .before .before .before)) (listed (c .before .before .before .before .before .before .before .before) .read) (held (c .before .before .before .before .before .before .before) .most) (sym (c .before .before .distinct-names .ensures _ (events-rows (held (c .before .before .before .before .before .before .before)))) ∙ not-false _ (c .before .if6 .left))) in
-    (a .verdict, a .rows)
+returns-8 c = answering _ _ (c .with-transitions .ensures _ _ (held (c .before .before .before .before .before .before .before)) (events-more (begun-text (c .before .before .before .before .before .before .before .before .before .before)) (listed (c .before .before .before .before .before .before .before .before) .read) (held (c .before .before .before .before .before .before .before) .most) (sym (c .before .before .distinct-names .ensures _ (events-rows (held (c .before .before .before .before .before .before .before)))) ∙ not-false _ (c .before .if6 .left))))
 
 pub read-spec : {M : Type 1} → statement M
 read-spec =
