@@ -18,6 +18,8 @@ use lexer::read_figure;
 use lexer::read_literal;
 use lexer::read_spaced_figure;
 use lexer::read_spaced_name;
+use model::MAX_EVENTS;
+use model::MAX_PLACES;
 
 // The mark of a state that is in no place.
 pub const UNPLACED: u8 = 255;
@@ -29,10 +31,10 @@ pub const NO_STATE: usize = 256;
 pub struct EventsLine {
     pub formed: bool,
     pub count: usize,
-    pub spot: [usize; 64],
-    pub len: [usize; 64],
-    pub high: [u64; 64],
-    pub low: [u64; 64],
+    pub spot: [usize; MAX_EVENTS],
+    pub len: [usize; MAX_EVENTS],
+    pub high: [u64; MAX_EVENTS],
+    pub low: [u64; MAX_EVENTS],
     pub next: usize,
 }
 
@@ -88,10 +90,10 @@ struct Names {
 fn read_names(
     s: &[u8],
     at: usize,
-    spot: &mut [usize; 64],
-    len: &mut [usize; 64],
-    high: &mut [u64; 64],
-    low: &mut [u64; 64],
+    spot: &mut [usize; MAX_EVENTS],
+    len: &mut [usize; MAX_EVENTS],
+    high: &mut [u64; MAX_EVENTS],
+    low: &mut [u64; MAX_EVENTS],
 ) -> Names
     requires { ⌜ FullRows (now spot) (now «len») (now «high») (now «low») ⌝ }
     ensures { λ r. ⌜ r ≡ asNames (many spacedName (now (s .entry)) at) ⌝ }
@@ -112,7 +114,7 @@ fn read_names(
         else {
             return Names { count: k, next: i };
         };
-        if k < 64 {
+        if k < MAX_EVENTS {
             spot[k] = next - n;
             len[k] = n;
             high[k] = h;
@@ -129,10 +131,10 @@ fn no_events() -> EventsLine
     EventsLine {
         formed: false,
         count: 0,
-        spot: [0usize; 64],
-        len: [0usize; 64],
-        high: [0u64; 64],
-        low: [0u64; 64],
+        spot: [0usize; MAX_EVENTS],
+        len: [0usize; MAX_EVENTS],
+        high: [0u64; MAX_EVENTS],
+        low: [0u64; MAX_EVENTS],
         next: 0,
     }
 }
@@ -144,10 +146,10 @@ pub fn read_events(s: &[u8], at: usize) -> EventsLine
     let Word::Found { value: _, next: a } = read_literal(s, at, b"(events") else {
         return no_events();
     };
-    let mut spot = [0usize; 64];
-    let mut len = [0usize; 64];
-    let mut high = [0u64; 64];
-    let mut low = [0u64; 64];
+    let mut spot = [0usize; MAX_EVENTS];
+    let mut len = [0usize; MAX_EVENTS];
+    let mut high = [0u64; MAX_EVENTS];
+    let mut low = [0u64; MAX_EVENTS];
     let names = read_names(s, a, &mut spot, &mut len, &mut high, &mut low);
     let count = names.count;
     let last = names.next;
@@ -289,7 +291,7 @@ fn mark_place(s: &[u8], at: usize, row: &mut [u8; 256], n: usize, p: u8, m: Mark
 fn place_number(k: usize) -> u8
     ensures { λ r. ⌜ r ≡ upTo64 k ⌝ }
 {
-    if k < 64 { k as u8 } else { 64 }
+    if k < MAX_PLACES { k as u8 } else { 64 }
 }
 
 // The places of a machine line, or a place that has no form.
@@ -345,7 +347,7 @@ fn without_row(formed: bool, places: usize, declared: bool, next: usize) -> Mach
 fn has_row(places: usize, declared: bool) -> bool
     ensures { λ r. ⌜ r ≡ (leb places 64 && declared) ⌝ }
 {
-    if places <= 64 {
+    if places <= MAX_PLACES {
         return declared;
     }
     false
@@ -360,11 +362,9 @@ pub fn read_machine(s: &[u8], at: usize, n: usize) -> MachineLine
         return without_row(false, 0, false, 0);
     };
     let mut row = [UNPLACED; 256];
-    let declared = true;
-    let duplicate = NO_STATE;
     let start = Marks {
-        declared,
-        duplicate,
+        declared: true,
+        duplicate: NO_STATE,
     };
     let Places::Found {
         count,
@@ -380,16 +380,14 @@ pub fn read_machine(s: &[u8], at: usize, n: usize) -> MachineLine
     let Word::Found { value: _, next } = read_literal(s, end, b")\n") else {
         return without_row(false, 0, false, 0);
     };
-    let declared = marks.declared;
-    let duplicate = marks.duplicate;
-    if !has_row(count, declared) {
-        return without_row(true, count, declared, next);
+    if !has_row(count, marks.declared) {
+        return without_row(true, count, marks.declared, next);
     }
     MachineLine {
         formed: true,
         places: count,
-        declared,
-        duplicate,
+        declared: marks.declared,
+        duplicate: marks.duplicate,
         row,
         next,
     }

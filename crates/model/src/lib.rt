@@ -1,5 +1,18 @@
 // The types that the crates share. The model's definitions (specs/) and theorems (proofs/) are what the crates above cite.
 
+// The bounds of document 01, "The text".
+pub const MAX_TEXT: usize = 32768;
+
+pub const MAX_STATES: usize = 256;
+
+pub const MAX_EVENTS: usize = 64;
+
+pub const MAX_TRANSITIONS: usize = 1024;
+
+pub const MAX_MACHINES: usize = 16;
+
+pub const MAX_PLACES: usize = 64;
+
 // Why a call is refused. Document 01 has the table; a comment gives its word.
 pub enum Refusal {
     // misformed

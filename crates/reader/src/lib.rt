@@ -24,6 +24,12 @@ use lines::read_events;
 use lines::read_machine;
 use lines::read_states;
 use lines::read_step;
+use model::MAX_EVENTS;
+use model::MAX_MACHINES;
+use model::MAX_PLACES;
+use model::MAX_STATES;
+use model::MAX_TEXT;
+use model::MAX_TRANSITIONS;
 use model::Refusal;
 
 // Whether a text passes 1 to 3.
@@ -38,17 +44,17 @@ pub struct Tables {
     pub initial: usize,
     // for each event the position of its name in the text, and the name's length
     pub events: usize,
-    pub name_at: [usize; 64],
-    pub name_len: [usize; 64],
+    pub name_at: [usize; MAX_EVENTS],
+    pub name_len: [usize; MAX_EVENTS],
     // for each transition, in the order of the lines
     pub transitions: usize,
-    pub source: [u8; 1024],
-    pub event: [u8; 1024],
-    pub target: [u8; 1024],
+    pub source: [u8; MAX_TRANSITIONS],
+    pub event: [u8; MAX_TRANSITIONS],
+    pub target: [u8; MAX_TRANSITIONS],
     // for each machine how many places it has, and the lowest state that it lists twice or NO_STATE
     pub machines: usize,
-    pub sizes: [usize; 16],
-    pub duplicate: [usize; 16],
+    pub sizes: [usize; MAX_MACHINES],
+    pub duplicate: [usize; MAX_MACHINES],
     // at m * 256 + x the place of state x in machine m, or UNPLACED
     pub place: [u8; 4096],
 }
@@ -75,15 +81,15 @@ fn refused(why: Refusal) -> Reading
             states: 0,
             initial: 0,
             events: 0,
-            name_at: [0usize; 64],
-            name_len: [0usize; 64],
+            name_at: [0usize; MAX_EVENTS],
+            name_len: [0usize; MAX_EVENTS],
             transitions: 0,
-            source: [0u8; 1024],
-            event: [0u8; 1024],
-            target: [0u8; 1024],
+            source: [0u8; MAX_TRANSITIONS],
+            event: [0u8; MAX_TRANSITIONS],
+            target: [0u8; MAX_TRANSITIONS],
             machines: 0,
-            sizes: [0usize; 16],
-            duplicate: [0usize; 16],
+            sizes: [0usize; MAX_MACHINES],
+            duplicate: [0usize; MAX_MACHINES],
             place: [0u8; 4096],
         },
     }
@@ -91,9 +97,9 @@ fn refused(why: Refusal) -> Reading
 
 // The first of the names with this length and these bytes; their count if there is none.
 fn find_name<'a>(
-    len: &'a [usize; 64],
-    high: &'a [u64; 64],
-    low: &'a [u64; 64],
+    len: &'a [usize; MAX_EVENTS],
+    high: &'a [u64; MAX_EVENTS],
+    low: &'a [u64; MAX_EVENTS],
     count: usize,
     n: usize,
     h: u64,
@@ -118,9 +124,9 @@ fn find_name<'a>(
 
 // No name is the same as an earlier one.
 fn distinct_names<'a>(
-    len: &'a [usize; 64],
-    high: &'a [u64; 64],
-    low: &'a [u64; 64],
+    len: &'a [usize; MAX_EVENTS],
+    high: &'a [u64; MAX_EVENTS],
+    low: &'a [u64; MAX_EVENTS],
     count: usize,
 ) -> bool
     requires { ⌜ count ≤ 64 ⌝ }
@@ -161,9 +167,9 @@ fn read_transitions(
     at: usize,
     n: usize,
     names: EventsLine,
-    source: &mut [u8; 1024],
-    event: &mut [u8; 1024],
-    target: &mut [u8; 1024],
+    source: &mut [u8; MAX_TRANSITIONS],
+    event: &mut [u8; MAX_TRANSITIONS],
+    target: &mut [u8; MAX_TRANSITIONS],
 ) -> Section
     requires { ⌜ (n ≤ 256) × (names .count ≤ 64) ⌝ }
     ensures { λ r. ⌜ countOf r ≤ 1024 ⌝ }
@@ -177,7 +183,7 @@ fn read_transitions(
             return Section::Read { count: k, next: i };
         };
         let line = 3 + k;
-        if 1024 <= k {
+        if MAX_TRANSITIONS <= k {
             return Section::Refused(Refusal::LimitExceeded { line });
         }
         let len = step.len;
@@ -212,8 +218,8 @@ fn put_row(row: &[u8; 256], table: &mut [u8; 4096], k: usize)
 fn within_limits(k: usize, places: usize) -> bool
     ensures { λ r. ⌜ r ≡ (ltb k 16 && leb places 64) ⌝ }
 {
-    if k < 16 {
-        return places <= 64;
+    if k < MAX_MACHINES {
+        return places <= MAX_PLACES;
     }
     false
 }
@@ -224,8 +230,8 @@ fn read_machines(
     at: usize,
     n: usize,
     line: usize,
-    sizes: &mut [usize; 16],
-    duplicate: &mut [usize; 16],
+    sizes: &mut [usize; MAX_MACHINES],
+    duplicate: &mut [usize; MAX_MACHINES],
     place: &mut [u8; 4096],
 ) -> Section
     requires { ⌜ (n ≤ 256) × (line ≤ 1027) ⌝ }
@@ -275,15 +281,15 @@ fn with_machines(
     n: usize,
     names: EventsLine,
     k: usize,
-    source: [u8; 1024],
-    event: [u8; 1024],
-    target: [u8; 1024],
+    source: [u8; MAX_TRANSITIONS],
+    event: [u8; MAX_TRANSITIONS],
+    target: [u8; MAX_TRANSITIONS],
 ) -> Reading
     requires { ⌜ (n ≤ 256) × (k ≤ 1024) ⌝ }
     ensures { λ r. ⌜ ReadsLast (now (s .entry)) at n names k (transitionRows source event target) r ⌝ }
 {
-    let mut sizes = [0usize; 16];
-    let mut duplicate = [NO_STATE; 16];
+    let mut sizes = [0usize; MAX_MACHINES];
+    let mut duplicate = [NO_STATE; MAX_MACHINES];
     let mut place = [UNPLACED; 4096];
     match read_machines(s, at, n, 3 + k, &mut sizes, &mut duplicate, &mut place) {
         Section::Refused(why) => refused(why),
@@ -314,9 +320,9 @@ fn with_transitions(s: &[u8], n: usize, names: EventsLine) -> Reading
     requires { ⌜ (n ≤ 256) × (names .count ≤ 64) ⌝ }
     ensures { λ r. ⌜ ReadsLines (now (s .entry)) n names r ⌝ }
 {
-    let mut source = [0u8; 1024];
-    let mut event = [0u8; 1024];
-    let mut target = [0u8; 1024];
+    let mut source = [0u8; MAX_TRANSITIONS];
+    let mut event = [0u8; MAX_TRANSITIONS];
+    let mut target = [0u8; MAX_TRANSITIONS];
     let at = names.next;
     match read_transitions(s, at, n, names, &mut source, &mut event, &mut target) {
         Section::Refused(why) => refused(why),
@@ -332,7 +338,7 @@ pub fn read(text: &[u8]) -> Reading
     ensures { λ r. ⌜ r .tables ≡ tablesOf (Text.read (now (text .entry))) ⌝ }
     ensures { λ r. ⌜ ((v : Text.Input) → Text.read (now (text .entry)) ≡ passed v → Told (now (text .entry)) v (r .tables)) ⌝ }
 {
-    if 32768 < text.len() {
+    if MAX_TEXT < text.len() {
         return refused(Refusal::LimitExceeded { line: 0 });
     }
     let Word::Found { value: n, next } = read_states(text, 0) else {
@@ -341,7 +347,7 @@ pub fn read(text: &[u8]) -> Reading
     if n < 1 {
         return refused(Refusal::LimitExceeded { line: 1 });
     }
-    if 256 < n {
+    if MAX_STATES < n {
         return refused(Refusal::LimitExceeded { line: 1 });
     }
     let names = read_events(text, next);
@@ -350,7 +356,7 @@ pub fn read(text: &[u8]) -> Reading
     if !formed {
         return refused(Refusal::Malformed { line: 2 });
     }
-    if 64 < count {
+    if MAX_EVENTS < count {
         return refused(Refusal::LimitExceeded { line: 2 });
     }
     if !distinct_names(&names.len, &names.high, &names.low, count) {
