@@ -1,9 +1,9 @@
 -- The laws of crate `lexer`. For the crates above: Answers, Loops, Moves and Telling.
 
--- the functions' own: loops along a text, figures and names from runs of bytes, packing
+-- the functions' own: along a text byte by byte, packing, and figures and names from their bytes
 pub mod Runs
-pub mod Words
 pub mod Packing
+pub mod Words
 -- what an answer says of the text
 pub mod Answers
 -- items one after another, and the readers that go on

@@ -1,73 +1,103 @@
--- Bytes as a number in base 256: the loop that packs them, and the two numbers of a name.
-use Prim.Native.Nat.{ℕ, suc, _+_, _-_, _*_, _^_, _<_, _≤_}
+-- Bytes as a number in base 256: the loop that packs a run of name bytes, and the two numbers of a name.
+use Prim.Native.Nat.{ℕ, suc, _+_, _-_, _*_, _^_, _<_, _≤_, min}
 use native.Mathlib.Nat.{pow-suc, pow-le-pow-right}
-use native.Mathlib.Numerals.{add-one}
 use native.Mathlib.Omega.{arith}
-use mathlib.Core.Path.{_≡_, refl}
+use mathlib.Core.Path.{_≡_, refl, ap, sym, _∙_}
+use mathlib.Core.Logic.{⊎-elim}
 use mathlib.Core.List.{List, [], _∷_, _++_}
 use lib.ListN.{length, getD, take, drop, length-drop, drop-of-length-le}
-use lib.Seq.{drop-cons, length-take-le, take-all, take-add, take-at, drop-at, drop-drop}
+use lib.Seq.{take-suc, length-take-le, take-all, take-add, take-at, drop-at, drop-drop, getD-drop}
+use Rattle.model.specs.Bytes.{leading, isNameByte}
 use Rattle.model.specs.Reading.{part}
+use Rattle.model.proofs.Laws.{order}
+use Rattle.model.proofs.Words.{leading-le}
 use Rattle.lexer.specs.Words.{packedFrom, packed, foundName}
 use Rattle.lexer.specs.declared.NameWord.the-variants as N
+use Rattle.lexer.proofs.Runs.{Passes, Fails, run-more, run-stop, run-rest}
 
--- the loop that packs the bytes from `from` to `to` has v and stands at i: the bytes from i on, after v, give the whole
-pub record Packing (s : List ℕ) (from to v i : ℕ) : Type 0 where
-  pub left : packedFrom v (part s i (to - i)) ≡ packed (part s from (to - from))
+-- how many name bytes stand at a position
+abbrev pub run : List ℕ → ℕ → ℕ
+run s at = leading isNameByte (drop at s)
+
+packed-snoc : (w : List ℕ) (x b : ℕ) → packedFrom x (w ++ (b ∷ [])) ≡ packedFrom x w * 256 + b
+packed-snoc [] x b = refl
+packed-snoc (a ∷ w) x b = packed-snoc w (x * 256 + a) b
+
+-- the loop that packs the run at `from` has v and stands at i
+pub record Packing (s : List ℕ) (from v i : ℕ) : Type 0 where
   pub least : from ≤ i
-  pub most : i ≤ to
+  pub most : i ≤ from + 8
+  pub along : i + run s i ≡ from + run s from
+  pub value : v ≡ packed (part s from (i - from))
   pub small : v < 256 ^ (i - from)
 
-pub pack-start : {s : List ℕ} {from to : ℕ} → from ≤ to → Packing s from to 0 from
-pack-start {s} {from} {to} h =
+pub pack-start : {s : List ℕ} {from : ℕ} → Packing s from 0 from
+pack-start {s} {from} =
     let z : from - from ≡ 0 = omega arith in
-    record { left = refl; least = omega arith; most = h; small = rw z (omega arith) }
+    record { least = omega arith; most = omega arith; along = refl; value = rw z; small = rw z (omega arith) }
 
-module _ {s : List ℕ} {from to v i : ℕ} where
-  pub pack-more : Packing s from to v i → i < to → to ≤ length s → {b : ℕ} → b ≡ getD s i 0 → b < 256 → Packing s from to (v * 256 + b) (i + 1)
-  pack-more inv h k {b} e l =
-      let n : to - i ≡ suc (to - (i + 1)) = omega arith in
-      let p : part s i (to - i) ≡ b ∷ part s (i + 1) (to - (i + 1)) = rw (n, drop-cons s i 0 (omega arith), e, add-one i) in
-      let m : i + 1 - from ≡ suc (i - from) = omega arith in
+module _ {s : List ℕ} {from v i : ℕ} (inv : Packing s from v i) where
+  pub pack-more : i - from < 8 → Passes isNameByte s i → {b : ℕ} → b ≡ getD s i 0 → b < 256 → Packing s from (v * 256 + b) (i + 1)
+  pack-more h r {b} e l =
+      let n : i + 1 - from ≡ suc (i - from) = omega arith in
+      let k : from + (i - from) ≡ i = omega arith in
+      let g : getD (drop from s) (i - from) 0 ≡ b = getD-drop from s (i - from) 0 ∙ ap (λ (j : ℕ). getD s j 0) k ∙ sym e in
+      let f : i - from < length (drop from s) = omega (arith, length-drop from s) in
       record {
-        left = (rw p at (inv .left));
         least = omega arith;
         most = omega arith;
-        small = rw (m, pow-suc) (omega arith);
+        along = omega (arith, run-more r);
+        value = rw (n, take-suc (drop from s) (i - from) 0 f, packed-snoc, g, ← inv .value);
+        small = rw (n, pow-suc) (omega arith);
       }
 
   -- one byte more goes into 64 bits
-  pub pack-fits : Packing s from to v i → i < to → to ≤ from + 8 → v * 256 + 255 < 256 ^ 8
-  pack-fits inv h k = omega (arith, pow-le-pow-right {n = 256} (omega arith) {i = i - from} {j = 7} (omega arith))
+  pub pack-fits : i - from < 8 → v * 256 + 255 < 256 ^ 8
+  pack-fits h = omega (arith, pow-le-pow-right {n = 256} (omega arith) {i = i - from} {j = 7} (omega arith))
 
-  pub pack-end : Packing s from to v i → to ≤ i → v ≡ packed (part s from (to - from))
-  pack-end inv h = let z : to - i ≡ 0 = omega arith in rw z at (inv .left)
+  pub pack-stop : Fails isNameByte s i → i ≡ from + min 8 (run s from)
+  pack-stop f = omega (arith, run-stop f)
 
--- the bytes from `from` to `to` are packed in two parts, which meet at m: h is the first and l the second
-pub record Halves (s : List ℕ) (from to m h l : ℕ) : Type 0 where
-  pub first : h ≡ packed (part s from (m - from))
-  pub second : l ≡ packed (part s m (to - m))
-  pub least : from ≤ to
-  pub within : to ≤ length s
+  pub pack-full : 8 ≤ i - from → i ≡ from + min 8 (run s from)
+  pack-full h = omega arith
 
-module _ {s : List ℕ} {from to m h l : ℕ} (p : Halves s from to m h l) where
-  whole : length (part s from (to - from)) ≡ to - from
-  whole = length-take-le (to - from) (drop from s) (omega (arith, length-drop from s))
+-- the two runs from `at` on, of at most eight name bytes each: they end at m and e, and h and l are their numbers
+pub record Halves (s : List ℕ) (at m e h l : ℕ) : Type 0 where
+  pub first : m ≡ at + min 8 (run s at)
+  pub second : e ≡ m + min 8 (run s m)
+  pub high-is : h ≡ packed (part s at (m - at))
+  pub low-is : l ≡ packed (part s m (e - m))
 
-  pub halves-short : to - from < 8 → m ≡ to → N.Found (to - from) h l to ≡ foundName (part s from (to - from)) to
-  halves-short n e =
-      let w = part s from (to - from) in
-      let z : to - to ≡ 0 = omega arith in
+module _ {s : List ℕ} {at m e h l : ℕ} (p : Halves s at m e h l) where
+  -- together they have the run's first 16 bytes
+  pub both : e ≡ at + min 16 (run s at)
+  both = omega (arith, run-rest isNameByte s at m (omega arith) (omega arith))
+
+  pub behind : e + run s e ≡ at + run s at
+  behind = run-rest isNameByte s at e (omega (arith, both)) (omega (arith, both))
+
+  whole : length (part s at (e - at)) ≡ e - at
+  whole = length-take-le (e - at) (drop at s) (omega (arith, both, leading-le isNameByte (drop at s)))
+
+  short : e - at < 8 → N.Found (e - at) h l e ≡ foundName (part s at (e - at)) e
+  short n =
+      let w = part s at (e - at) in
+      let z : e - e ≡ 0 = omega arith in
+      let q : m ≡ e = omega (arith, both) in
       let a : take 8 w ≡ w = take-all 8 w (omega (arith, whole)) in
       let b : drop 8 w ≡ [] = drop-of-length-le w {i = 8} (omega (arith, whole)) in
-      simp (whole, a, b, p .first, p .second, e, z)
+      simp (whole, a, b, p .high-is, p .low-is, q, z)
 
-  pub halves-long : 8 ≤ to - from → m ≡ from + 8 → N.Found (to - from) h l to ≡ foundName (part s from (to - from)) to
-  halves-long n e =
-      let f : m - from ≡ 8 = omega arith in
-      let q : to - from ≡ 8 + (to - m) = omega arith in
-      let t : part s from (to - from) ≡ part s from 8 ++ part s m (to - m) = rw (q, take-add, drop-drop, ← e) in
-      let k : length (part s from 8) ≡ 8 = length-take-le 8 (drop from s) (omega (arith, length-drop from s)) in
-      let a : take 8 (part s from (to - from)) ≡ part s from 8 = rw t (take-at (part s from 8) (part s m (to - m)) 8 k) in
-      let b : drop 8 (part s from (to - from)) ≡ part s m (to - m) = rw t (drop-at (part s from 8) (part s m (to - m)) 8 k) in
-      simp (whole, a, b, p .first, p .second, f)
+  long : 8 ≤ e - at → N.Found (e - at) h l e ≡ foundName (part s at (e - at)) e
+  long n =
+      let f : m - at ≡ 8 = omega (arith, both) in
+      let q : e - at ≡ 8 + (e - m) = omega (arith, both) in
+      let k : at + 8 ≡ m = omega (arith, both) in
+      let t : part s at (e - at) ≡ part s at 8 ++ part s m (e - m) = rw (q, take-add, drop-drop, k) in
+      let j : length (part s at 8) ≡ 8 = length-take-le 8 (drop at s) (omega (arith, both, leading-le isNameByte (drop at s))) in
+      let a : take 8 (part s at (e - at)) ≡ part s at 8 = rw t (take-at (part s at 8) (part s m (e - m)) 8 j) in
+      let b : drop 8 (part s at (e - at)) ≡ part s m (e - m) = rw t (drop-at (part s at 8) (part s m (e - m)) 8 j) in
+      simp (whole, a, b, p .high-is, p .low-is, f)
+
+  pub halves-name : N.Found (e - at) h l e ≡ foundName (part s at (e - at)) e
+  halves-name = ⊎-elim short long (order (e - at) 8)

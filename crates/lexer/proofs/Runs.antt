@@ -1,38 +1,73 @@
--- The loops that go along a text from one position to the next: a run of bytes of one kind, and the bytes of a literal.
-use Prim.Native.Nat.{ℕ, suc, _+_, _<_, _≤_}
+-- Along a text from one position to the next: a run of bytes of one kind, and the bytes of a literal.
+use Prim.Native.Nat.{ℕ, zero, suc, _+_, _-_, _<_, _≤_}
 use native.Mathlib.Numerals.{add-one}
 use native.Mathlib.Omega.{arith}
 use mathlib.Core.Path.{_≡_, refl, ap, sym, _∙_}
-use mathlib.Core.Bool.{Bool, true, false, not}
-use mathlib.Core.List.{List}
+use mathlib.Core.Bool.{Bool, true, false, not, cond}
+use mathlib.Core.List.{List, [], _∷_}
 use lib.ListN.{length, getD, drop, drop-of-length-le}
-use lib.Seq.{drop-cons}
+use lib.Seq.{drop-cons, drop-drop}
 use borrow.Author.Tests.{eq-eqb, ne-eqb, not-true, not-false}
 use Rattle.model.specs.Bytes.{leading, starts}
 use Rattle.model.specs.Reading.{litBytes}
 use Rattle.lexer.specs.Words.{asLiteral}
 use Rattle.lexer.specs.declared.Word.the-variants.{Missing, Found}
 
--- a loop that goes along a run which began at `at` stands at i: the run from i ends where the run from `at` does
-pub record Along (p : ℕ → Bool) (s : List ℕ) (at i : ℕ) : Type 0 where
-  pub ends : i + leading p (drop i s) ≡ at + leading p (drop at s)
+-- the byte at i is of the kind p
+pub record Passes (p : ℕ → Bool) (s : List ℕ) (i : ℕ) : Type 0 where
+  pub passes : p (getD s i 0) ≡ true
+  pub within : i < length s
 
--- t is what the code's own test says of the byte at i
-module _ {p : ℕ → Bool} {s : List ℕ} {at i : ℕ} {t : Bool} where
-  pub run-more : Along p s at i → i < length s → t ≡ p (getD s i 0) → not t ≡ false → Along p s at (i + 1)
-  run-more inv h e n =
-      let f : leading p (drop i s) ≡ suc (leading p (drop (i + 1) s)) = rw (add-one i, drop-cons s i 0 h) (simp (sym e, not-false t n)) in
-      record { ends = omega arith }
+-- it is not, or the text ends before it
+pub record Fails (p : ℕ → Bool) (s : List ℕ) (i : ℕ) : Type 0 where
+  pub fails : p (getD s i 0) ≡ false
 
-  pub run-stop : Along p s at i → i < length s → t ≡ p (getD s i 0) → not t ≡ true → i ≡ at + leading p (drop at s)
-  run-stop inv h e n =
-      let f : leading p (drop i s) ≡ 0 = rw (drop-cons s i 0 h) (simp (sym e, not-true t n)) in
-      omega arith
+module _ (p : ℕ → Bool) where
+  inside : (s : List ℕ) (i : ℕ) → p 0 ≡ false → p (getD s i 0) ≡ true → i < length s
+  inside [] i z h = let q : _≡_ {A = ℕ} 0 1 = cc in absurd (omega arith)
+  inside (a ∷ s) zero z h = omega arith
+  inside (a ∷ s) (suc i) z h = let k = inside s i z h in omega arith
 
-pub run-end : {p : ℕ → Bool} {s : List ℕ} {at i : ℕ} → Along p s at i → length s ≤ i → i ≡ at + leading p (drop at s)
-run-end {p} {s} {at} {i} inv h =
-    let f : leading p (drop i s) ≡ 0 = simp (drop-of-length-le s h) in
-    omega arith
+  stops : (s : List ℕ) (i : ℕ) → p (getD s i 0) ≡ false → leading p (drop i s) ≡ 0
+  stops [] zero h = refl
+  stops [] (suc i) h = refl
+  stops (a ∷ s) zero h = simp h
+  stops (a ∷ s) (suc i) h = stops s i h
+
+  goes-on : (k : ℕ) (t : List ℕ) → k ≤ leading p t → k + leading p (drop k t) ≡ leading p t
+  goes-on zero t h = omega arith
+  goes-on (suc k) [] h = absurd (omega arith)
+  goes-on (suc k) (b ∷ t) h = go (p b) h (goes-on k t)
+    where
+      go : (q : Bool) → suc k ≤ cond q (suc (leading p t)) 0 → (k ≤ leading p t → k + leading p (drop k t) ≡ leading p t)
+          → suc k + leading p (drop k t) ≡ cond q (suc (leading p t)) 0
+      go true h r = let e = r (omega arith) in omega arith
+      go false h r = absurd (omega arith)
+
+  -- from a position inside a run, the run ends where it does from its beginning
+  pub run-rest : (s : List ℕ) (at i : ℕ) → at ≤ i → i ≤ at + leading p (drop at s) → i + leading p (drop i s) ≡ at + leading p (drop at s)
+  run-rest s at i h k =
+      let q : at + (i - at) ≡ i = omega arith in
+      let d : drop (i - at) (drop at s) ≡ drop i s = rw (drop-drop, q) in
+      omega (arith, rw d at (goes-on (i - at) (drop at s) (omega arith)))
+
+module _ {p : ℕ → Bool} {s : List ℕ} {i : ℕ} where
+  -- t is what the code's own test says of b, the byte at i; 0 stands for the end, and is of no kind
+  module _ {b : ℕ} {t : Bool} (e : t ≡ p b) (k : b ≡ getD s i 0) where
+    pub passing : p 0 ≡ false → not t ≡ false → Passes p s i
+    passing z n = let h : p (getD s i 0) ≡ true = sym (e ∙ ap p k) ∙ not-false t n in record { passes = h; within = inside p s i z h }
+
+    pub failing : not t ≡ true → Fails p s i
+    failing n = record { fails = sym (e ∙ ap p k) ∙ not-true t n }
+
+  pub run-cons : Passes p s i → drop i s ≡ getD s i 0 ∷ drop (i + 1) s
+  run-cons h = rw (add-one i) (drop-cons s i 0 (h .within))
+
+  pub run-more : Passes p s i → leading p (drop i s) ≡ suc (leading p (drop (i + 1) s))
+  run-more h = simp (run-cons h, h .passes)
+
+  pub run-stop : Fails p s i → leading p (drop i s) ≡ 0
+  run-stop h = stops p s i (h .fails)
 
 -- a loop that compares the bytes at `at` with those of w stands at i in w and at j in s: what is left to compare decides
 pub record Matching (s : List ℕ) (at : ℕ) (w : List ℕ) (i j : ℕ) : Type 0 where

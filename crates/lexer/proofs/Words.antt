@@ -1,126 +1,119 @@
--- The code's answers to a figure and to a name, from the run of bytes that stands there: one law for each way out.
-use Prim.Native.Nat.{ℕ, _+_, _-_, _*_, _<_, _≤_}
+-- The code's answers to a figure and to a name, one law for each way out.
+use Prim.Native.Nat.{ℕ, suc, _+_, _-_, _*_, _<_, _≤_}
+use native.Mathlib.Nat.{add-assoc, add-zero}
 use native.Mathlib.Omega.{arith}
-use mathlib.Core.Path.{_≡_, refl, ap, sym, _∙_}
-use mathlib.Core.Bool.{Bool, true, false, cond, and-false}
-use mathlib.Core.List.{List, [], _∷_}
-use lib.ListN.{length, getD, drop, length-drop}
+use mathlib.Core.Path.{_≡_, ap, _∙_}
+use mathlib.Core.Logic.{_⊎_, inl, inr}
+use mathlib.Core.Bool.{Bool, and-false}
+use mathlib.Core.List.{List, _∷_}
+use lib.ListN.{length, getD, drop}
 use lib.Seq.{length-take-le, getD-drop, getD-take}
 use borrow.Author.Tests.{ne-eqb, le-leb, lt-leb}
-use Rattle.model.specs.Bytes.{leading, isDigit, isLetter, isNameByte, isFigure, isName, decimal}
-use Rattle.model.specs.Reading.{fail, got, part, figure, name}
+use Rattle.model.specs.Bytes.{leading, isDigit, isLetter, isNameByte, isFigure, isName}
+use Rattle.model.specs.Reading.{part, figure, name}
+use Rattle.model.proofs.Laws.{order}
 use Rattle.model.proofs.Words.{leading-le}
-use Rattle.lexer.specs.Words.{asFigure, asName, foundName}
-use Rattle.lexer.specs.declared.Word.{Word}
+use Rattle.lexer.specs.Words.{asFigure, asName}
 use Rattle.lexer.specs.declared.Word.the-variants.{Missing, Found}
-use Rattle.lexer.specs.declared.NameWord.{NameWord}
 use Rattle.lexer.specs.declared.NameWord.the-variants as N
+use Rattle.lexer.proofs.Runs.{Passes, Fails, run-cons, run-more, run-stop}
+use Rattle.lexer.proofs.Packing.{run, Halves, both, behind, halves-name}
 
--- the longest run of the test p at `at` ends at e
-pub record Run (p : ℕ → Bool) (s : List ℕ) (at e : ℕ) : Type 0 where
-  pub ends : e ≡ at + leading p (drop at s)
+-- the word that a run of the kind p makes: its length and its first byte
+module _ (p : ℕ → Bool) (s : List ℕ) (at : ℕ) where
+  sized : length (part s at (leading p (drop at s))) ≡ leading p (drop at s)
+  sized = length-take-le (leading p (drop at s)) (drop at s) (leading-le p (drop at s))
 
-module _ {p : ℕ → Bool} {s : List ℕ} {at e : ℕ} (r : Run p s at e) where
-  pub inside : 0 < e - at → e ≤ length s
-  inside h = omega (arith, leading-le p (drop at s), length-drop at s)
+  first : 0 < leading p (drop at s) → getD (part s at (leading p (drop at s))) 0 0 ≡ getD s at 0
+  first h = rw (getD-take, getD-drop, add-zero)
 
-  sized : length (part s at (e - at)) ≡ e - at
-  sized = length-take-le (e - at) (drop at s) (omega (arith, leading-le p (drop at s)))
+pub figure-none : (s : List ℕ) (at : ℕ) → Fails isDigit s at → Missing ≡ asFigure (figure s at)
+unfolding isFigure
+figure-none s at f = simp (run-stop f)
 
-  counted : leading p (drop at s) ≡ e - at
-  counted = omega arith
+-- the number that the digit at a position writes
+abbrev value : List ℕ → ℕ → ℕ
+value s i = getD s i 0 - 48
 
--- the bytes of a part
-module _ (s : List ℕ) (at n : ℕ) where
-  nth : (k : ℕ) → k < n → getD (part s at n) k 0 ≡ getD s (at + k) 0
-  nth k h = rw (getD-take, getD-drop)
-
-  first : 0 < n → getD (part s at n) 0 0 ≡ getD s at 0
-  first h = nth 0 h ∙ ap (λ (k : ℕ). getD s k 0) (omega arith)
-
-one : (w : List ℕ) → length w ≡ 1 → w ≡ getD w 0 0 ∷ []
-one [] e = absurd (omega arith)
-one (a ∷ []) e = refl
-one (a ∷ b ∷ w) e = absurd (omega arith)
-
-two : (w : List ℕ) → length w ≡ 2 → w ≡ getD w 0 0 ∷ getD w 1 0 ∷ []
-two [] e = absurd (omega arith)
-two (a ∷ w) e = ap (λ (l : List ℕ). a ∷ l) (one w (omega arith))
-
-three : (w : List ℕ) → length w ≡ 3 → w ≡ getD w 0 0 ∷ getD w 1 0 ∷ getD w 2 0 ∷ []
-three [] e = absurd (omega arith)
-three (a ∷ w) e = ap (λ (l : List ℕ). a ∷ l) (two w (omega arith))
-
--- the answer to a run of digits w that ends at e
-abbrev figureOf : List ℕ → ℕ → Word
-figureOf w e = asFigure (cond (isFigure w) (got (decimal w) e) fail)
-
-module _ {s : List ℕ} {at e : ℕ} (r : Run isDigit s at e) where
-  answer : figureOf (part s at (e - at)) e ≡ asFigure (figure s at)
-  answer = rw (sym (r .ends), counted r)
-
-  size : length (part s at (e - at)) ≡ e - at
-  size = sized r
-
-  pub figure-none : e - at ≡ 0 → Missing ≡ asFigure (figure s at)
+module _ {s : List ℕ} {at : ℕ} (d : Passes isDigit s at) where
+  pub figure-1 : Fails isDigit s (at + 1) → {v : ℕ} → v ≡ value s at → Found v (at + 1) ≡ asFigure (figure s at)
   unfolding isFigure
-  figure-none h = sym (simp h) ∙ answer
+  figure-1 f e = simp (run-cons d, d .passes, run-stop f) (ap (λ (v : ℕ). Found v (at + 1)) (omega arith))
 
-  pub figure-long : 3 < e - at → Missing ≡ asFigure (figure s at)
+  pub figure-zero : Passes isDigit s (at + 1) → getD s at 0 ≡ 48 → Missing ≡ asFigure (figure s at)
   unfolding isFigure
-  figure-long h = sym (simp (size, lt-leb _ _ h, le-leb 1 (e - at) (omega arith))) ∙ answer
+  figure-zero d1 z =
+      let n = leading isDigit (drop at s) in
+      let l : 1 < n = omega (arith, run-more d, run-more d1) in
+      simp (sized isDigit s at, first isDigit s at (omega arith), z, ne-eqb n 1 (λ q. omega arith), le-leb 1 n (omega arith), and-false)
 
-  pub figure-zero : 1 < e - at → getD s at 0 ≡ 48 → Missing ≡ asFigure (figure s at)
+-- two digits, or more, that begin with no zero
+pub record Two (s : List ℕ) (at : ℕ) : Type 0 where
+  pub d0 : Passes isDigit s at
+  pub d1 : Passes isDigit s (at + 1)
+  pub no-zero : getD s at 0 ≡ 48 → ⊥
+
+module _ {s : List ℕ} {at : ℕ} (t : Two s at) where
+  two : drop at s ≡ getD s at 0 ∷ getD s (at + 1) 0 ∷ drop (at + 2) s
+  two = simp (run-cons (t .d0), run-cons (t .d1), add-assoc at 1 1)
+
+  pub figure-2 : Fails isDigit s (at + 2) → {v : ℕ} → v ≡ value s at * 10 + value s (at + 1) → Found v (at + 2) ≡ asFigure (figure s at)
   unfolding isFigure
-  figure-zero h z =
-      sym (simp (size, first s at (e - at) (omega arith), z, ne-eqb (e - at) 1 (λ q. omega arith), le-leb 1 (e - at) (omega arith), and-false)) ∙ answer
+  figure-2 f e =
+      simp (two, t .d0 .passes, t .d1 .passes, run-stop f, ne-eqb (getD s at 0) 48 (t .no-zero)) (ap (λ (v : ℕ). Found v (at + 2)) (omega arith))
 
-  module _ {a : ℕ} (ea : a ≡ getD s at 0 - 48) where
-    pub figure-1 : e - at ≡ 1 → Found a e ≡ asFigure (figure s at)
+  module _ (d2 : Passes isDigit s (at + 2)) where
+    three : drop at s ≡ getD s at 0 ∷ getD s (at + 1) 0 ∷ getD s (at + 2) 0 ∷ drop (at + 3) s
+    three = simp (two, run-cons d2, add-assoc at 2 1)
+
+    pub figure-3 : Fails isDigit s (at + 3) → {v : ℕ} → v ≡ (value s at * 10 + value s (at + 1)) * 10 + value s (at + 2)
+        → Found v (at + 3) ≡ asFigure (figure s at)
     unfolding isFigure
-    figure-1 h =
-        sym (ap (λ (l : List ℕ). figureOf l e) (one (part s at (e - at)) (size ∙ h))
-        ∙ simp (first s at (e - at) (omega arith)) (ap (λ (v : ℕ). Found v e) (omega arith))) ∙ answer
+    figure-3 f e =
+        simp (three, t .d0 .passes, t .d1 .passes, d2 .passes, run-stop f, ne-eqb (getD s at 0) 48 (t .no-zero))
+        (ap (λ (v : ℕ). Found v (at + 3)) (omega arith))
 
-    module _ (z : getD s at 0 ≡ 48 → ⊥) {b : ℕ} (eb : b ≡ getD s (at + 1) 0 - 48) where
-      pub figure-2 : e - at ≡ 2 → Found (a * 10 + b) e ≡ asFigure (figure s at)
-      unfolding isFigure
-      figure-2 h =
-          sym (ap (λ (l : List ℕ). figureOf l e) (two (part s at (e - at)) (size ∙ h))
-          ∙ simp (first s at (e - at) (omega arith), nth s at (e - at) 1 (omega arith), ne-eqb (getD s at 0) 48 z)
-          (ap (λ (v : ℕ). Found v e) (omega arith))) ∙ answer
+    pub figure-long : Passes isDigit s (at + 3) → Missing ≡ asFigure (figure s at)
+    unfolding isFigure
+    figure-long d3 =
+        let n = leading isDigit (drop at s) in
+        let e : n ≡ suc (suc (suc (leading isDigit (drop (at + 3) s)))) = simp (three, t .d0 .passes, t .d1 .passes, d2 .passes) in
+        let l : 3 < n = omega (arith, run-more d3) in
+        simp (sized isDigit s at, lt-leb n 3 l, le-leb 1 n (omega arith))
 
-      pub figure-3 : {d : ℕ} → d ≡ getD s (at + 2) 0 - 48 → e - at ≡ 3 → Found ((a * 10 + b) * 10 + d) e ≡ asFigure (figure s at)
-      unfolding isFigure
-      figure-3 ed h =
-          sym (ap (λ (l : List ℕ). figureOf l e) (three (part s at (e - at)) (size ∙ h))
-          ∙ simp (first s at (e - at) (omega arith), nth s at (e - at) 1 (omega arith), nth s at (e - at) 2 (omega arith), ne-eqb (getD s at 0) 48 z)
-          (ap (λ (v : ℕ). Found v e) (omega arith))) ∙ answer
+pub name-none : (s : List ℕ) (at : ℕ) → Fails isLetter s at → N.Missing ≡ asName (name s at)
+unfolding isName
+name-none s at f = go (order 0 (run s at))
+  where
+    go : (0 < run s at) ⊎ (run s at ≤ 0) → N.Missing ≡ asName (name s at)
+    go (inl h) = simp (first isNameByte s at h, f .fails, and-false)
+    go (inr h) = let z : run s at ≡ 0 = omega arith in simp z
 
--- the answer to a run of name bytes w that ends at e
-abbrev nameOf : List ℕ → ℕ → NameWord
-nameOf w e = asName (cond (isName w) (got w e) fail)
-
-module _ {s : List ℕ} {at e : ℕ} (r : Run isNameByte s at e) where
-  answered : nameOf (part s at (e - at)) e ≡ asName (name s at)
-  answered = rw (sym (r .ends), counted r)
-
-  long : length (part s at (e - at)) ≡ e - at
-  long = sized r
-
-  pub name-none : e - at ≡ 0 → N.Missing ≡ asName (name s at)
+module _ {s : List ℕ} {at m e h l : ℕ} (p : Halves s at m e h l) where
+  pub name-long : Passes isNameByte s e → N.Missing ≡ asName (name s at)
   unfolding isName
-  name-none h = sym (simp h) ∙ answered
+  name-long b =
+      let n = run s at in
+      let g : 16 < n = omega (arith, both p, behind p, run-more b) in
+      simp (sized isNameByte s at, lt-leb n 16 g, le-leb 1 n (omega arith))
 
-  pub name-long : 16 < e - at → N.Missing ≡ asName (name s at)
-  unfolding isName
-  name-long h = sym (simp (long, lt-leb _ _ h, le-leb 1 (e - at) (omega arith))) ∙ answered
+  module _ (f : Passes isLetter s at) where
+    letter : Passes isNameByte s at
+    unfolding isNameByte
+    letter = record { passes = simp (f .passes); within = f .within }
 
-  module _ (l : 1 ≤ e - at) (u : e - at ≤ 16) where
-    pub name-bad : isLetter (getD s at 0) ≡ false → N.Missing ≡ asName (name s at)
+    -- the two runs have the whole of the name
+    whole : e ≡ at + run s at → N.Found (e - at) h l e ≡ asName (name s at)
     unfolding isName
-    name-bad f = sym (simp (long, le-leb _ _ l, le-leb _ _ u, first s at (e - at) (omega arith), f)) ∙ answered
+    whole q =
+        let n = run s at in
+        let d : e - at ≡ n = omega arith in
+        let g : 0 < n = omega (arith, run-more letter) in
+        let u : n ≤ 16 = omega (arith, both p) in
+        halves-name p ∙ rw (d, q) (simp (sized isNameByte s at, le-leb 1 n g, le-leb n 16 u, first isNameByte s at g, f .passes))
 
-    pub name-is : isLetter (getD s at 0) ≡ true → foundName (part s at (e - at)) e ≡ asName (name s at)
-    unfolding isName
-    name-is f = sym (simp (long, le-leb _ _ l, le-leb _ _ u, first s at (e - at) (omega arith), f)) ∙ answered
+    pub name-short : (e - at ≡ 16 → ⊥) → N.Found (e - at) h l e ≡ asName (name s at)
+    name-short d = whole (omega (arith, both p))
+
+    pub name-16 : Fails isNameByte s e → N.Found (e - at) h l e ≡ asName (name s at)
+    name-16 b = whole (omega (arith, behind p, run-stop b))

@@ -1,11 +1,11 @@
 // Words at a position of a text: literals, figures and names.
 ghost use mathlib.Core.Path.{_≡_};
-ghost use Prim.Native.Nat.{_+_, _-_, _<_, _≤_};
-ghost use lib.ListN.{length, take, drop};
+ghost use Prim.Native.Nat.{_+_, _-_, _<_, min};
+ghost use lib.ListN.{getD, take, drop};
 ghost use Rattle.model.specs.Bytes.{isDigit, isLetter, isNameByte, leading};
 ghost use Rattle.model.specs.Reading.{litBytes, figure, name};
 ghost use Rattle.model.specs.Form.{spacedFigure, spacedName};
-ghost use Rattle.lexer.specs.Words.{asLiteral, asFigure, asName, foundName, packed};
+ghost use Rattle.lexer.specs.Words.{asLiteral, asFigure, asName, packed};
 
 // A figure or a literal at a position: its value, and the position after it.
 pub enum Word {
@@ -48,32 +48,11 @@ fn is_name_byte(b: u8) -> bool
     b == b'-'
 }
 
-// The position after the longest run of digits.
-fn digits_end(s: &[u8], at: usize) -> usize
-    ensures { λ r. ⌜ r ≡ at + leading isDigit (drop at (now (s .entry))) ⌝ }
+// The byte at a position; past the end 0, which no word holds.
+fn byte_at(s: &[u8], at: usize) -> u8
+    ensures { λ r. ⌜ r ≡ getD (now (s .entry)) at 0 ⌝ }
 {
-    let mut i = at;
-    while i < s.len() {
-        if !is_digit(s[i]) {
-            return i;
-        }
-        i += 1;
-    }
-    i
-}
-
-// The position after the longest run of name bytes.
-fn name_end(s: &[u8], at: usize) -> usize
-    ensures { λ r. ⌜ r ≡ at + leading isNameByte (drop at (now (s .entry))) ⌝ }
-{
-    let mut i = at;
-    while i < s.len() {
-        if !is_name_byte(s[i]) {
-            return i;
-        }
-        i += 1;
-    }
-    i
+    if at < s.len() { s[at] } else { 0 }
 }
 
 // These very bytes; the value is 0.
@@ -106,31 +85,33 @@ fn digit(b: u8) -> usize
 pub fn read_figure(s: &[u8], at: usize) -> Word
     ensures { λ r. ⌜ r ≡ asFigure (figure (now (s .entry)) at) ⌝ }
 {
-    let e = digits_end(s, at);
-    let n = e - at;
-    if n == 0 {
+    let first = byte_at(s, at);
+    if !is_digit(first) {
         return Word::Missing;
     }
-    let first = s[at];
-    let a = digit(first);
-    if n == 1 {
-        return Word::Found { value: a, next: e };
+    let one = digit(first);
+    let second = byte_at(s, at + 1);
+    if !is_digit(second) {
+        return Word::Found {
+            value: one,
+            next: at + 1,
+        };
     }
     if first == b'0' {
         return Word::Missing;
     }
-    let b = digit(s[at + 1]);
-    if n == 2 {
+    let two = one * 10 + digit(second);
+    let third = byte_at(s, at + 2);
+    if !is_digit(third) {
         return Word::Found {
-            value: a * 10 + b,
-            next: e,
+            value: two,
+            next: at + 2,
         };
     }
-    if n == 3 {
-        let c = digit(s[at + 2]);
+    if !is_digit(byte_at(s, at + 3)) {
         return Word::Found {
-            value: (a * 10 + b) * 10 + c,
-            next: e,
+            value: two * 10 + digit(third),
+            next: at + 3,
         };
     }
     Word::Missing
@@ -142,51 +123,52 @@ fn wide(b: u8) -> u64
     b as u64
 }
 
-// At most eight bytes as a number in base 256.
-fn pack(s: &[u8], from: usize, to: usize) -> u64
-    requires { ⌜ (from ≤ to) × (to ≤ from + 8) × (to ≤ length (now s)) ⌝ }
-    ensures { λ r. ⌜ r ≡ packed (take (to - from) (drop from (now (s .entry)))) ⌝ }
-{
-    let mut v: u64 = 0;
-    let mut i = from;
-    while i < to {
-        v = v * 256 + wide(s[i]);
-        i += 1;
-    }
-    v
+// Name bytes as a number in base 256, and the position after them.
+struct Packed {
+    value: u64,
+    next: usize,
 }
 
-// The name that stands from one position to another, of at most 16 bytes.
-fn pack_name(s: &[u8], from: usize, to: usize) -> NameWord
-    requires { ⌜ (from ≤ to) × (to ≤ from + 16) × (to ≤ length (now s)) ⌝ }
-    ensures { λ r. ⌜ r ≡ foundName (take (to - from) (drop from (now (s .entry)))) to ⌝ }
+// The name bytes from a position on, at most the eight that 64 bits hold.
+fn pack_run(s: &[u8], from: usize) -> Packed
+    ensures { λ r. ⌜ r .next ≡ from + min 8 (leading isNameByte (drop from (now (s .entry)))) ⌝ }
+    ensures { λ r. ⌜ r .value ≡ packed (take (r .next - from) (drop from (now (s .entry)))) ⌝ }
 {
-    let n = to - from;
-    let middle = if n < 8 { to } else { from + 8 };
-    NameWord::Found {
-        len: n,
-        high: pack(s, from, middle),
-        low: pack(s, middle, to),
-        next: to,
+    let mut value: u64 = 0;
+    let mut i = from;
+    while i - from < 8 {
+        let b = byte_at(s, i);
+        if !is_name_byte(b) {
+            return Packed { value, next: i };
+        }
+        value = value * 256 + wide(b);
+        i += 1;
     }
+    Packed { value, next: i }
 }
 
 // 1 to 16 name bytes that begin with a letter.
 pub fn read_name(s: &[u8], at: usize) -> NameWord
     ensures { λ r. ⌜ r ≡ asName (name (now (s .entry)) at) ⌝ }
 {
-    let e = name_end(s, at);
-    let n = e - at;
-    if n == 0 {
+    if !is_letter(byte_at(s, at)) {
         return NameWord::Missing;
     }
-    if 16 < n {
-        return NameWord::Missing;
+    let first = pack_run(s, at);
+    // finds no byte where the first run is shorter than eight
+    let second = pack_run(s, first.next);
+    let len = second.next - at;
+    if len == 16 {
+        if is_name_byte(byte_at(s, second.next)) {
+            return NameWord::Missing;
+        }
     }
-    if is_letter(s[at]) {
-        return pack_name(s, at, e);
+    NameWord::Found {
+        len,
+        high: first.value,
+        low: second.value,
+        next: second.next,
     }
-    NameWord::Missing
 }
 
 // A space and a figure.
