@@ -6,6 +6,7 @@ use mathlib.Core.Logic.{_⊎_, inl, inr}
 use mathlib.Core.Bool.{Bool, true, false, not, and-false}
 use mathlib.Core.List.{List, [], _∷_, _++_, map, append-assoc, append-nil}
 use lib.Dec.{T, leb, ltb}
+use borrow.Author.Tests.{le-leb, lt-leb}
 use lib.ListN.{length, length-append, length-map}
 use Rattle.model.specs.Lists.{exists, index, count}
 use Rattle.model.specs.Refusal.{refuse, Checked, refused, passed}
@@ -25,12 +26,12 @@ use Rattle.lines.specs.declared.EventsLine.{EventsLine}
 use Rattle.lines.specs.Lines.{allBelow, eventsRows, namesFrom}
 use Rattle.lines.proofs.Found.{GotEvents}
 use Rattle.reader.specs.Sections.{Events, Rest, begun}
-use Rattle.reader.proofs.Rest.{leb-yes, leb-no, rest-start, rest-end, rest-fail, rest-none, rest-limit, rest-undeclared, rest-more}
+use Rattle.reader.proofs.Rest.{rest-start, rest-end, rest-fail, rest-none, rest-limit, rest-undeclared, rest-more}
 
 -- a test that agrees with an order
 as-order : (b : Bool) (m n : ℕ) → (T b → m < n) → (T (not b) → n ≤ m) → b ≡ ltb m n
-as-order true m n f g = sym (leb-yes (suc m) n (f tt))
-as-order false m n f g = sym (leb-no (suc m) n (omega (arith, g tt)))
+as-order true m n f g = sym (le-leb (suc m) n (f tt))
+as-order false m n f g = sym (lt-leb (suc m) n (omega (arith, g tt)))
 
 -- what stands in a list is counted there, and has a number there
 module _ {A : Type 0} (f : A → Bool) where
@@ -61,15 +62,15 @@ module _ (s : List ℕ) where
     module _ (h : length s ≤ 32768) where
       pub states-none : n < 1 → read s ≡ refused (refuse 2 1 0)
       unfolding lineAfter inLimit
-      states-none k = rest-limit (rest-start s h) g (rw (leb-no 1 n k))
+      states-none k = rest-limit (rest-start s h) g (rw (lt-leb 1 n k))
 
       pub states-many : 256 < n → read s ≡ refused (refuse 2 1 0)
       unfolding lineAfter inLimit
-      states-many k = rest-limit (rest-start s h) g (rw (leb-no n 256 k, and-false))
+      states-many k = rest-limit (rest-start s h) g (rw (lt-leb n 256 k, and-false))
 
       pub states-more : 1 ≤ n → n ≤ 256 → Rest s (states n ∷ []) next (read s)
       unfolding lineAfter inLimit isDeclared
-      states-more k m = rest-more (rest-start s h) g (rw (leb-yes 1 n k, leb-yes n 256 m)) refl
+      states-more k m = rest-more (rest-start s h) g (rw (le-leb 1 n k, le-leb n 256 m)) refl
 
 -- ---- the events
 
@@ -81,16 +82,16 @@ module _ {s : List ℕ} {n at : ℕ} {c : Checked Input} (r : Rest s (states n �
   module _ {es : List Name} {next : ℕ} (g : eventsLine s at ≡ got (events es) next) where
     pub events-many : 64 < length es → c ≡ refused (refuse 2 2 0)
     unfolding lineAfter inLimit
-    events-many k = rest-limit r g (leb-no (length es) 64 k)
+    events-many k = rest-limit r g (lt-leb (length es) 64 k)
 
     module _ (k : length es ≤ 64) where
       pub events-twice : distinct es ≡ false → c ≡ refused (refuse 3 2 0)
       unfolding lineAfter inLimit isDeclared
-      events-twice d = rest-undeclared r g (leb-yes (length es) 64 k) d
+      events-twice d = rest-undeclared r g (le-leb (length es) 64 k) d
 
       pub events-more : distinct es ≡ true → Rest s (begun n es []) next c
       unfolding lineAfter inLimit isDeclared
-      events-more d = rest-more r g (leb-yes (length es) 64 k) d
+      events-more d = rest-more r g (le-leb (length es) 64 k) d
 
 -- the line's rows, after the line of n states
 pub events-held : (s : List ℕ) {n at : ℕ} {line : EventsLine} → statesLine s 0 ≡ got (states n) at → (e : GotEvents (eventsLine s at) at line)
@@ -141,8 +142,8 @@ module _ (n : ℕ) (es : List Name) (ts : List Named) (ms : List Machine) where
   next-machine s at f = go (order 0 (length ms))
     where
       go : (0 < length ms) ⊎ (length ms ≤ 0) → lineAfter (lines n es ts ms) s at ≡ machineLine s at
-      go (inl h) = rw (machine-there, leb-yes 1 (length ms) h)
-      go (inr h) = rw (machine-there, leb-no 1 (length ms) (omega arith), f (omega arith))
+      go (inl h) = rw (machine-there, le-leb 1 (length ms) h)
+      go (inr h) = rw (machine-there, lt-leb 1 (length ms) (omega arith), f (omega arith))
 
 module _ (n : ℕ) (es : List Name) (ts : List Named) where
   one-step : (t : Named) → begun n es ts ++ (Values.stepLine t ∷ []) ≡ begun n es (ts ++ (t ∷ []))
@@ -163,33 +164,33 @@ module _ {s : List ℕ} {n : ℕ} {es : List Name} {c : Checked Input} {at a b n
   unfolding inLimit
   step-many h =
       rw step-number at (rest-limit r (next-step n es ts s at g)
-      (leb-no (suc (count isStepLine (begun n es ts))) 1024 (omega (arith, steps-counted n es ts []))))
+      (lt-leb (suc (count isStepLine (begun n es ts))) 1024 (omega (arith, steps-counted n es ts []))))
 
   module _ (room : k < 1024) where
     step-within : inLimit (begun n es ts) (step a e b) ≡ true
     unfolding inLimit
-    step-within = leb-yes (suc (count isStepLine (begun n es ts))) 1024 (omega (arith, steps-counted n es ts []))
+    step-within = le-leb (suc (count isStepLine (begun n es ts))) 1024 (omega (arith, steps-counted n es ts []))
 
     step-undeclared : isDeclared (begun n es ts) (step a e b) ≡ false → c ≡ refused (refuse 3 (3 + k) 0)
     step-undeclared d = rw step-number at (rest-undeclared r (next-step n es ts s at g) step-within d)
 
     pub step-source : n ≤ a → c ≡ refused (refuse 3 (3 + k) 0)
     unfolding isDeclared
-    step-source h = step-undeclared (rw (leb-no (suc a) n (omega arith)))
+    step-source h = step-undeclared (rw (lt-leb (suc a) n (omega arith)))
 
     pub step-target : n ≤ b → c ≡ refused (refuse 3 (3 + k) 0)
     unfolding isDeclared
-    step-target h = step-undeclared (simp (leb-no (suc b) n (omega arith), and-false))
+    step-target h = step-undeclared (simp (lt-leb (suc b) n (omega arith), and-false))
 
     pub step-event : length es ≤ eventNumber es e → c ≡ refused (refuse 3 (3 + k) 0)
     unfolding isDeclared eventNumber
-    step-event h = step-undeclared (rw (exists-index (sameName e) es, leb-no (suc (index (sameName e) es)) (length es) (omega arith), and-false))
+    step-event h = step-undeclared (rw (exists-index (sameName e) es, lt-leb (suc (index (sameName e) es)) (length es) (omega arith), and-false))
 
     pub step-more : a < n → b < n → eventNumber es e < length es → Rest s (begun n es (ts ++ (record { source = a; event = e; target = b } ∷ []))) next c
     unfolding isDeclared eventNumber
     step-more i j h =
         rw (one-step n es ts (record { source = a; event = e; target = b })) at (rest-more r (next-step n es ts s at g) step-within
-        (rw (exists-index (sameName e) es, leb-yes (suc (index (sameName e) es)) (length es) h, leb-yes (suc a) n i, leb-yes (suc b) n j)))
+        (rw (exists-index (sameName e) es, le-leb (suc (index (sameName e) es)) (length es) h, le-leb (suc a) n i, le-leb (suc b) n j)))
 
 -- ---- a machine, and the end
 
@@ -199,17 +200,17 @@ module _ {s : List ℕ} {n : ℕ} {es : List Name} {c : Checked Input} {at k lin
   machine-number = omega (arith, length-lines n es ts ms)
 
   two-lines : leb 2 (length (lines n es ts ms)) ≡ true
-  two-lines = leb-yes 2 (length (lines n es ts ms)) (omega (arith, length-lines n es ts ms))
+  two-lines = le-leb 2 (length (lines n es ts ms)) (omega (arith, length-lines n es ts ms))
 
   pub machines-none : length s ≤ at → k ≡ 0 → c ≡ refused (refuse 2 line 0)
   unfolding ended
   machines-none h z =
       let q : suc (length (lines n es ts ms)) ≡ line = omega (arith, machine-number) in
-      rw (two-lines, machine-there n es ts ms, leb-no 1 (length ms) (omega arith), q) at (rest-end r h)
+      rw (two-lines, machine-there n es ts ms, lt-leb 1 (length ms) (omega arith), q) at (rest-end r h)
 
   pub machines-end : length s ≤ at → 0 < k → c ≡ passed (valueOf (lines n es ts ms))
   unfolding ended
-  machines-end h z = rw (two-lines, machine-there n es ts ms, leb-yes 1 (length ms) (omega arith)) at (rest-end r h)
+  machines-end h z = rw (two-lines, machine-there n es ts ms, le-leb 1 (length ms) (omega arith)) at (rest-end r h)
 
   -- before the first machine no step line stands next
   module _ (last : length ms ≡ 0 → stepLine s at ≡ fail) where
@@ -225,16 +226,16 @@ module _ {s : List ℕ} {n : ℕ} {es : List Name} {c : Checked Input} {at k lin
 
       pub machine-many : 16 ≤ k → c ≡ refused (refuse 2 (line + k) 0)
       unfolding inLimit
-      machine-many h = machine-over (rw (machines-counted n es ts ms, leb-no (suc (length ms)) 16 (omega arith)))
+      machine-many h = machine-over (rw (machines-counted n es ts ms, lt-leb (suc (length ms)) 16 (omega arith)))
 
       pub machine-places : 64 < length ps → c ≡ refused (refuse 2 (line + k) 0)
       unfolding inLimit
-      machine-places h = machine-over (rw (leb-no (length ps) 64 h, and-false))
+      machine-places h = machine-over (rw (lt-leb (length ps) 64 h, and-false))
 
       module _ (room : k < 16) (small : length ps ≤ 64) where
         machine-within : inLimit (lines n es ts ms) (machine ps) ≡ true
         unfolding inLimit
-        machine-within = rw (machines-counted n es ts ms, leb-yes (suc (length ms)) 16 (omega arith), leb-yes (length ps) 64 small)
+        machine-within = rw (machines-counted n es ts ms, le-leb (suc (length ms)) 16 (omega arith), le-leb (length ps) 64 small)
 
         pub machine-undeclared : allBelow n ps ≡ false → c ≡ refused (refuse 3 (line + k) 0)
         unfolding isDeclared allBelow

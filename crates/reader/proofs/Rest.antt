@@ -5,25 +5,19 @@ use mathlib.Core.Path.{_≡_, refl, sym}
 use mathlib.Core.Logic.{_⊎_, inl, inr}
 use mathlib.Core.Bool.{Bool, true, false, cond, _&&_}
 use mathlib.Core.List.{List, [], _∷_, _++_}
-use lib.Dec.{leb, not-T, leb→le, le→leb}
+use lib.Dec.{leb}
+use borrow.Author.Tests.{le-leb, lt-leb}
 use lib.ListN.{length}
 use Rattle.model.specs.Refusal.{refuse, Checked, refused, need, _>>_}
 use Rattle.model.specs.Reading.{fail, got}
 use Rattle.model.specs.Lists.{exists}
 use Rattle.model.specs.Form.{Line, states, events, machine, written, isMachineLine, stepLine, machineLine, lineAfter}
 use Rattle.model.specs.Text.{Input, inLimit, isDeclared, nextLine, ended, lineThen, linesFrom, read}
-use Rattle.model.proofs.Laws.{T-true, T-false, order}
+use Rattle.model.proofs.Laws.{order}
 use Rattle.model.proofs.Lines.{Fits, line-fits, LineRead, line-sound, written-positive}
 use Rattle.lexer.proofs.Loops.{Moves}
 use Rattle.lexer.proofs.Moves.{moves-written}
 use Rattle.reader.specs.Sections.{Rest}
-
--- a test of the order, from the order; `ltb m n` is `leb (suc m) n`
-pub leb-yes : (m n : ℕ) → m ≤ n → leb m n ≡ true
-leb-yes m n h = T-true (leb m n) (le→leb m n h)
-
-pub leb-no : (m n : ℕ) → n < m → leb m n ≡ false
-leb-no m n h = T-false (leb m n) (not-T (leb m n) (λ t. omega (arith, leb→le m n t)))
 
 -- one of two tests fails
 pub and-not : (a b : Bool) → (a && b) ≡ false → (a ≡ false) ⊎ (b ≡ false)
@@ -32,11 +26,11 @@ and-not false b e = inl refl
 
 pub too-long : (s : List ℕ) → 32768 < length s → read s ≡ refused (refuse 2 0 0)
 unfolding read
-too-long s h = rw (leb-no (length s) 32768 h)
+too-long s h = rw (lt-leb (length s) 32768 h)
 
 pub rest-start : (s : List ℕ) → length s ≤ 32768 → Rest s [] 0 (read s)
 unfolding read
-rest-start s h = rw (leb-yes (length s) 32768 h) (record { inside = omega arith; fuel = suc (length s); enough = omega arith; same = refl })
+rest-start s h = rw (le-leb (length s) 32768 h) (record { inside = omega arith; fuel = suc (length s); enough = omega arith; same = refl })
 
 -- the loop's next round
 record Round (s : List ℕ) (ls : List Line) (at : ℕ) (c : Checked Input) : Type 0 where
@@ -54,10 +48,10 @@ module _ {s : List ℕ} {ls : List Line} {at : ℕ} {c : Checked Input} (r : Res
   here = round (r .fuel) (r .inside) (r .enough) (r .same)
 
   pub rest-end : length s ≤ at → c ≡ ended ls
-  rest-end h = sym (rw (leb-yes (length s) at h) at (here .same))
+  rest-end h = sym (rw (le-leb (length s) at h) at (here .same))
 
   line-next : at < length s → lineThen ls (lineAfter ls s at) (linesFrom (here .left) s) ≡ c
-  line-next h = rw (leb-no (length s) at h) at (here .same)
+  line-next h = rw (lt-leb (length s) at h) at (here .same)
 
   -- no line that may follow stands there
   pub rest-fail : at < length s → lineAfter ls s at ≡ fail → c ≡ refused (refuse 1 (suc (length ls)) 0)
@@ -71,7 +65,7 @@ module _ {s : List ℕ} {ls : List Line} {at : ℕ} {c : Checked Input} (r : Res
     where
       go : (at < length s) ⊎ (length s ≤ at) → c ≡ refused (refuse 1 (suc (length ls)) 0)
       go (inl h) = rest-fail h e
-      go (inr h) = rw (leb-no 2 (length ls) few) at (rest-end h)
+      go (inr h) = rw (lt-leb 2 (length ls) few) at (rest-end h)
 
   module _ {l : Line} {next : ℕ} (g : lineAfter ls s at ≡ got l next) where
     found : LineRead ls s at l next
