@@ -129,7 +129,10 @@ returns-5 : tie.Need-returns-5
 returns-5 c = past (ended (c .before .before .before .before)) (sym (c .before .before .has-row .ensures) ∙ not-true _ (c .before .if2 .taken)) (c .without-row5 .ensures)
 
 returns-6 : tie.Need-returns-6
-returns-6 c = placed (ended (c .before .before .before)) (c .before .before .before .before .before .before .before .before .before .before .before .before .before .before .before .before .before .before .before .pre) (sym (c .before .has-row .ensures) ∙ not-false _ (c .if2 .left))
+returns-6 c =
+    placed (ended (c .before .before .before))
+    (c .before .before .before .before .before .before .before .before .before .before .before .before .before .before .before .before .before .before .before .pre)
+    (sym (c .before .has-row .ensures) ∙ not-false _ (c .if2 .left))
 
 pub read-machine-spec : {M : Type 1} → statement M
 read-machine-spec =

@@ -8,6 +8,7 @@ use lib.Dec.{ltb, leb}
 use borrow.Author.Needs.{needs}
 use borrow.Author.Tests.{not-true, not-false}
 use Rattle.model.specs.Form.{machineLine}
+use Rattle.lines.specs.declared.MachineLine.{MachineLine}
 use Rattle.lines.proofs.Found.{GotMachine, machine-got, machine-missing}
 use Rattle.reader.proofs.Rest.{machine-moves}
 use lib.ListN.{length}
@@ -17,21 +18,33 @@ use Rattle.reader.proofs.read_machines.Statement.{statement}
 use Rattle.reader.proofs.read_machines.Tie as tie
 
 abbrev Inv-loop : tie.InvT-loop
-Inv-loop s at n line sizes₀ duplicate₀ place₀ k₀ i₀ sizes duplicate place k i = SoFar s at n line (machineRows sizes₀ duplicate₀ place₀) k i (machineRows sizes duplicate place)
+Inv-loop s at n line sizes₀ duplicate₀ place₀ k₀ i₀ sizes duplicate place k i =
+    SoFar s at n line (machineRows sizes₀ duplicate₀ place₀) k i (machineRows sizes duplicate place)
 
 abbrev μ-loop : tie.MeasureT-loop
 μ-loop s at n line sizes₀ duplicate₀ place₀ k₀ i₀ sizes duplicate place k i = length s - i
 
+-- from the place behind a line of its form, and from the place behind its limits: where the turn began, the line
+abbrev turn : tie.Else1 Inv-loop μ-loop → tie.At-loop Inv-loop μ-loop
+turn c = c .before .before .before
+
+abbrev line : tie.Else2 Inv-loop μ-loop → tie.Else1 Inv-loop μ-loop
+line c = c .before .before
+
+abbrev answer : tie.Else1 Inv-loop μ-loop → MachineLine
+answer c = c .before .read-machine .result
+
 -- the line that a turn has read
-found : (c : tie.Else1 Inv-loop μ-loop) → GotMachine (c .before .before .before .before .before .args .n) (machineLine (now (c .before .before .before .before .before .args .s)) (c .before .before .before .loop .i)) (c .before .read-machine .result)
+found : (c : tie.Else1 Inv-loop μ-loop)
+    → GotMachine (turn c .before .before .args .n) (machineLine (now (turn c .before .before .args .s)) (turn c .loop .i)) (answer c)
 found c = machine-got _ _ _ (c .before .read-machine .ensures) (not-false _ (c .if1 .left))
 
 -- it is within the limits
-within : (c : tie.Else2 Inv-loop μ-loop) → (ltb (c .before .before .before .before .before .loop .k) 16 && leb (c .before .before .before .read-machine .result .places) 64) ≡ true
+within : (c : tie.Else2 Inv-loop μ-loop) → (ltb (turn (line c) .loop .k) 16 && leb (answer (line c) .places) 64) ≡ true
 within c = sym (c .before .within-limits .ensures) ∙ not-false _ (c .if2 .left)
 
-room : (c : tie.Else2 Inv-loop μ-loop) → c .before .before .before .before .before .loop .k < 16
-room c = within-both (c .before .before .before .before .before .loop .k) (c .before .before .before .read-machine .result .places) (within c) .0
+room : (c : tie.Else2 Inv-loop μ-loop) → turn (line c) .loop .k < 16
+room c = within-both (turn (line c) .loop .k) (answer (line c) .places) (within c) .0
 
 loop-holds : tie.Need-loop-holds Inv-loop μ-loop
 loop-holds c = machines-start (c .before .pre .0) (c .before .pre .1)
@@ -43,16 +56,18 @@ read-machine-requires : tie.Need-read-machine-requires Inv-loop μ-loop
 read-machine-requires c κs = search needs
 
 returns : tie.Need-returns Inv-loop μ-loop
-returns c = section-malformed (c .before .before .before .loop .inv) (c .before .before .loop-test .taken) (machine-missing _ _ _ (c .before .read-machine .ensures) (not-true _ (c .if1 .taken)))
+returns c =
+    section-malformed (c .before .before .before .loop .inv) (c .before .before .loop-test .taken)
+    (machine-missing _ _ _ (c .before .read-machine .ensures) (not-true _ (c .if1 .taken)))
 
 within-limits-requires : tie.Need-within-limits-requires Inv-loop μ-loop
 within-limits-requires c κs = search needs
 
 returns-2 : tie.Need-returns-2 Inv-loop μ-loop
-returns-2 c = section-limit (c .before .before .before .before .before .loop .inv) (found (c .before .before)) (sym (c .before .within-limits .ensures) ∙ not-true _ (c .if2 .taken))
+returns-2 c = section-limit (turn (c .before .before) .loop .inv) (found (c .before .before)) (sym (c .before .within-limits .ensures) ∙ not-true _ (c .if2 .taken))
 
 returns-3 : tie.Need-returns-3 Inv-loop μ-loop
-returns-3 c = section-undeclared (c .before .before .before .before .before .before .loop .inv) (found (c .before .before .before)) (within (c .before)) (not-true _ (c .if3 .taken))
+returns-3 c = section-undeclared (turn (line (c .before)) .loop .inv) (found (line (c .before))) (within (c .before)) (not-true _ (c .if3 .taken))
 
 mul-sizes : tie.Need-mul-sizes Inv-loop μ-loop
 mul-sizes c = search needs
@@ -67,16 +82,20 @@ element-write-duplicate : tie.Need-element-write-duplicate Inv-loop μ-loop
 element-write-duplicate c = omega (arith, room (c .before))
 
 put-row-requires : tie.Need-put-row-requires Inv-loop μ-loop
-put-row-requires c κs = section-room (c .before .before .before .before .before .before .before .before .before .loop .inv) (found (c .before .before .before .before .before .before)) (within (c .before .before .before .before)) (not-false _ (c .before .before .before .if3 .left))
+put-row-requires c κs =
+    let d = c .before .before .before .before in
+    section-room (turn (line d) .loop .inv) (found (line d)) (within d) (not-false _ (c .before .before .before .if3 .left))
 
 add-k : tie.Need-add-k Inv-loop μ-loop
 add-k c = search needs
 
 loop-less : tie.Need-loop-less Inv-loop μ-loop
-loop-less c = omega (arith, machine-moves _ _ (found (c .before .before .before .before .before .before .before) .read))
+loop-less c = omega (arith, machine-moves _ _ (found (line (c .before .before .before .before .before)) .read))
 
 loop-again : tie.Need-loop-again Inv-loop μ-loop
-loop-again c = section-more (c .before .before .before .before .before .before .before .before .before .before .loop .inv) (found (c .before .before .before .before .before .before .before)) (within (c .before .before .before .before .before)) (not-false _ (c .before .before .before .before .if3 .left)) (c .put-row .ensures)
+loop-again c =
+    let d = c .before .before .before .before .before in
+    section-more (turn (line d) .loop .inv) (found (line d)) (within d) (not-false _ (c .before .before .before .before .if3 .left)) (c .put-row .ensures)
 
 returns-4 : tie.Need-returns-4 Inv-loop μ-loop
 returns-4 c = section-none (c .before .before .loop .inv) (c .before .loop-test .left) (c .if4 .taken)
