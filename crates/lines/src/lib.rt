@@ -48,6 +48,7 @@ pub struct StepWords {
     pub next: usize,
 }
 
+// A step line, or none of its form.
 pub enum StepLine {
     Missing,
     Found(StepWords),

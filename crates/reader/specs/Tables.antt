@@ -39,7 +39,8 @@ noTables =
     }
 
 -- Each row has its values from the front: of each event the place and the length of its name, of each transition its numbers, of each machine how many
--- places it has, the lowest state that it lists twice, and the place of each state. An entry that is not in use is 0, in `duplicate` 256 (no state), in `place` 255 (unplaced).
+-- places it has, the lowest state that it lists twice, and the place of each state. An entry that is not in use is 0, in `duplicate` 256 (no state), in
+-- `place` 255 (unplaced).
 unfoldable pub tablesOf : Checked Input → Tables
 tablesOf (refused r) = noTables
 tablesOf (passed v) =

@@ -32,6 +32,9 @@ limited c = c .before .before .before .before .before .before
 abbrev line : tie.After-all-declared Inv-loop μ-loop → tie.After-known-told Inv-loop μ-loop
 line c = limited c .before
 
+abbrev tested : tie.After-narrow3 Inv-loop μ-loop → tie.After-all-declared Inv-loop μ-loop
+tested c = c .before .before .before .before
+
 abbrev words : tie.After-known-told Inv-loop μ-loop → StepWords
 words c = c .before .step .given .0 .0
 
@@ -77,9 +80,8 @@ all-declared-requires c κs = search needs
 
 returns-3 : tie.Need-returns-3 Inv-loop μ-loop
 returns-3 c =
-    let d = c .before in
-    section-undeclared (turn (line d) .loop .inv) (found (line d)) (limited d .if1 .left) (d .before .find-name .ensures)
-    (sym (d .all-declared .ensures) ∙ not-true _ (c .if2 .taken))
+    section-undeclared (turn (line (c .before)) .loop .inv) (found (line (c .before))) (limited (c .before) .if1 .left) (c .before .before .find-name .ensures)
+    (sym (c .before .all-declared .ensures) ∙ not-true _ (c .if2 .taken))
 
 narrow-requires : tie.Need-narrow-requires Inv-loop μ-loop
 narrow-requires c κs = omega (arith, below c, turn (line (c .before)) .loop .inv .states)
@@ -103,13 +105,12 @@ add-k : tie.Need-add-k Inv-loop μ-loop
 add-k c = search needs
 
 loop-less : tie.Need-loop-less Inv-loop μ-loop
-loop-less c = omega (arith, step-moves _ _ (found (line (c .before .before .before .before)) .read))
+loop-less c = omega (arith, step-moves _ _ (found (line (tested c)) .read))
 
 loop-again : tie.Need-loop-again Inv-loop μ-loop
 loop-again c =
-    let d = c .before .before .before .before in
-    section-more (turn (line d) .loop .inv) (found (line d)) (limited d .if1 .left) (d .before .find-name .ensures)
-    (sym (d .all-declared .ensures) ∙ not-false _ (c .before .before .before .if2 .left)) (c .before .before .narrow .ensures) (c .before .narrow2 .ensures) (c .narrow3 .ensures)
+    section-more (turn (line (tested c)) .loop .inv) (found (line (tested c))) (limited (tested c) .if1 .left) (tested c .before .find-name .ensures)
+    (sym (tested c .all-declared .ensures) ∙ not-false _ (c .before .before .before .if2 .left)) (c .before .before .narrow .ensures) (c .before .narrow2 .ensures) (c .narrow3 .ensures)
 
 pub read-transitions-spec : {M : Type 1} → statement M
 read-transitions-spec =
