@@ -14,3 +14,5 @@ pub mod MachineSection
 pub mod Answering
 -- what the tables tell of the text
 pub mod Telling
+-- the bounds that a text that passed leaves its tables
+pub mod Bounds

@@ -65,11 +65,11 @@ rows-at (y ∷ ms) (suc k) m x d a h =
 
 -- ---- the tables of a value within its limits
 
-abbrev tables : Input → Tables
+abbrev pub tables : Input → Tables
 tables v = tablesOf (passed v)
 
 module _ (v : Input) (l : Limits v) where
-  transitions-told : (k : ℕ) → k ≤ length (v .transitions) → firstTransitions (tables v) k ≡ take k (v .transitions)
+  transitions-told : (k : ℕ) → k ≤ length (v .transitions) → firstTransitions (tables v .source) (tables v .event) (tables v .target) k ≡ take k (v .transitions)
   unfolding firstTransitions tablesOf
   transitions-told zero h = refl
   transitions-told (suc k) h =
@@ -82,7 +82,7 @@ module _ (v : Input) (l : Limits v) where
   unfolding systemOf tablesOf
   system-told = rw (transitions-told (length (v .transitions)) (omega arith), take-length (v .transitions))
 
-  name-placed : (e : ℕ) → e < length (v .names) → entry (tables v .«name_at») e ≡ nameAt v e
+  pub name-placed : (e : ℕ) → e < length (v .names) → entry (tables v .«name_at») e ≡ nameAt v e
   unfolding tablesOf
   name-placed e h =
       let n = length (v .names) in
@@ -97,7 +97,7 @@ module _ (v : Input) (l : Limits v) where
       let size : entry (row 64 0 (map length (v .names))) e ≡ length w = row-at length 64 0 (v .names) e w 0 (l .names-most) a in
       rw (size, name-placed e h) (name-part v e w a)
 
-  machine-told : (k : ℕ) (m : Machine) → At (v .machines) k m → MachineTold v (tables v) k m
+  machine-told : (k : ℕ) (m : Machine) → At (v .machines) k m → MachineTold (system v) (tables v) k m
   unfolding duplicateAt placeAt duplicateState tablesOf
   machine-told k m a =
       let ms = v .machines in
@@ -118,7 +118,12 @@ module _ (v : Input) (l : Limits v) where
   value-told : Told (write v) v (tables v)
   unfolding tablesOf
   value-told =
-      record { tells-system = system-told; name-place = name-placed; name = name-told; machines = refl; machine = machine-told }
+      record {
+        tells-system = system-told;
+        name-place = name-placed;
+        name = name-told;
+        tells-machines = record { counted = refl; machine = machine-told };
+      }
 
 -- what the tables tell of a text that passed is its value
 pub told : (s : List ℕ) (v : Input) → read s ≡ passed v → Told s v (tablesOf (read s))

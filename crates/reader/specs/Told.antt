@@ -5,11 +5,11 @@ use mathlib.Core.Path.{_≡_}
 use mathlib.Core.Bool.{cond}
 use mathlib.Core.List.{List, [], _∷_, _++_, flatten}
 use mathlib.Core.Option.{Option, none, some}
-use lib.Dec.{eqb}
+use lib.Dec.{eqb, ltb}
 use lib.ListN.{length, getD, take, drop}
 use Rattle.model.specs.Lists.{At, elem}
 use Rattle.model.specs.TransitionSystem.{Transition, TransitionSystem}
-use Rattle.model.specs.Machine.{Machine, placeOf, duplicateState}
+use Rattle.model.specs.Machine.{Machine, Decomposition, placeOf, duplicateState}
 use Rattle.model.specs.Bytes.{Name}
 use Rattle.model.specs.Text.{Input, system, nameAt}
 use Rattle.reader.specs.declared.Tables.{Tables}
@@ -17,14 +17,23 @@ use Rattle.reader.specs.declared.Tables.{Tables}
 abbrev pub entry : List ℕ → ℕ → ℕ
 entry row k = getD row k 0
 
--- the first k transitions
-unfoldable pub firstTransitions : Tables → ℕ → List Transition
-firstTransitions p zero = []
-firstTransitions p (suc k) =
-    firstTransitions p k ++ (record { source = entry (p .source) k; event = entry (p .event) k; target = entry (p .target) k } ∷ [])
+-- transition k of three rows
+abbrev pub transitionAt : List ℕ → List ℕ → List ℕ → ℕ → Transition
+transitionAt sources events targets k = record { source = entry sources k; event = entry events k; target = entry targets k }
+
+-- the first k of them
+unfoldable pub firstTransitions : List ℕ → List ℕ → List ℕ → ℕ → List Transition
+firstTransitions sources events targets zero = []
+firstTransitions sources events targets (suc k) = firstTransitions sources events targets k ++ (transitionAt sources events targets k ∷ [])
 
 unfoldable pub systemOf : Tables → TransitionSystem
-systemOf p = record { states = p .states; events = p .events; initial = p .initial; transitions = firstTransitions p (p .transitions) }
+systemOf p =
+    record {
+      states = p .states;
+      events = p .events;
+      initial = p .initial;
+      transitions = firstTransitions (p .source) (p .event) (p .target) (p .transitions);
+    }
 
 -- the name of event e, in the text
 unfoldable pub nameOf : List ℕ → Tables → ℕ → Name
@@ -34,6 +43,10 @@ nameOf s p e = take (entry (p .«name_len») e) (drop (entry (p .«name_at») e)
 unfoldable pub orNone : ℕ → ℕ → Option ℕ
 orNone mark x = cond (eqb x mark) none (some x)
 
+-- a number, unless it is the bound: what a search below the bound answers
+unfoldable pub below : ℕ → ℕ → Option ℕ
+below bound k = cond (ltb k bound) (some k) none
+
 -- the place of state x in machine k, and the lowest state that machine k lists twice
 unfoldable pub placeAt : Tables → ℕ → ℕ → Option ℕ
 placeAt p k x = orNone 255 (entry (p .place) (k * 256 + x))
@@ -41,14 +54,17 @@ placeAt p k x = orNone 255 (entry (p .place) (k * 256 + x))
 unfoldable pub duplicateAt : Tables → ℕ → Option ℕ
 duplicateAt p k = orNone 256 (entry (p .duplicate) k)
 
-pub record MachineTold (v : Input) (p : Tables) (k : ℕ) (m : Machine) : Type 0 where
+pub record MachineTold (ts : TransitionSystem) (p : Tables) (k : ℕ) (m : Machine) : Type 0 where
   pub places : entry (p .sizes) k ≡ length (m .places)
-  pub duplicate : duplicateAt p k ≡ duplicateState (system v) m
+  pub duplicate : duplicateAt p k ≡ duplicateState ts m
   pub place : (x : ℕ) → x < 256 → placeAt p k x ≡ cond (elem x (flatten (m .places))) (some (placeOf m x)) none
+
+pub record MachinesTold (ts : TransitionSystem) (p : Tables) (ms : Decomposition) : Type 0 where
+  pub counted : p .machines ≡ length ms
+  pub machine : (k : ℕ) (m : Machine) → At ms k m → MachineTold ts p k m
 
 pub record Told (s : List ℕ) (v : Input) (p : Tables) : Type 0 where
   pub tells-system : systemOf p ≡ system v
   pub name-place : (e : ℕ) → e < length (v .names) → entry (p .«name_at») e ≡ nameAt v e
   pub name : (e : ℕ) → e < length (v .names) → nameOf s p e ≡ getD (v .names) e []
-  pub machines : p .machines ≡ length (v .machines)
-  pub machine : (k : ℕ) (m : Machine) → At (v .machines) k m → MachineTold v p k m
+  pub tells-machines : MachinesTold (system v) p (v .machines)

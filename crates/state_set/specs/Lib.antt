@@ -1,0 +1,3 @@
+-- `Member`: the states of a set. `Rows`: the sets of a row.
+pub mod Member
+pub mod Rows

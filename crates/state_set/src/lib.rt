@@ -1,0 +1,176 @@
+// Sets of states, one bit for each of 256, and rows of such sets.
+ghost use mathlib.Core.Path.{_≡_};
+ghost use mathlib.Core.Bool.{not, _&&_, _||_};
+ghost use Prim.Native.Nat.{ℕ, _+_, _*_, _<_};
+ghost use lib.Count.{trailingZeros};
+ghost use lib.Dec.{eqb};
+ghost use lib.ListN.{length};
+ghost use Rattle.model.specs.Lists.{lowest};
+ghost use Rattle.state_set.specs.Member.{member, wordAt, stateFound};
+ghost use Rattle.state_set.specs.Rows.{setAt, Stored, Inserted};
+
+pub struct StateSet {
+    pub w0: u64,
+    pub w1: u64,
+    pub w2: u64,
+    pub w3: u64,
+}
+
+impl StateSet {
+    pub const EMPTY: StateSet = StateSet {
+        w0: 0,
+        w1: 0,
+        w2: 0,
+        w3: 0,
+    };
+
+    pub const FULL: StateSet = StateSet {
+        w0: 0xffff_ffff_ffff_ffff,
+        w1: 0xffff_ffff_ffff_ffff,
+        w2: 0xffff_ffff_ffff_ffff,
+        w3: 0xffff_ffff_ffff_ffff,
+    };
+}
+
+// The lowest state of a set, if it has one.
+pub enum Found {
+    Nothing,
+    State(u8),
+}
+
+// The set of one state.
+pub fn single(state: u8) -> StateSet
+    ensures { λ r. ⌜ ((i : ℕ) → member r i ≡ eqb i state) ⌝ }
+{
+    let bit = 1u64 << (state % 64);
+    let word = state / 64;
+    let mut set = StateSet::EMPTY;
+    if word == 0 {
+        set.w0 = bit;
+    } else if word == 1 {
+        set.w1 = bit;
+    } else if word == 2 {
+        set.w2 = bit;
+    } else {
+        set.w3 = bit;
+    }
+    set
+}
+
+// The states in both sets.
+pub fn meet(a: StateSet, b: StateSet) -> StateSet
+    ensures { λ r. ⌜ ((i : ℕ) → member r i ≡ (member a i && member b i)) ⌝ }
+{
+    StateSet {
+        w0: a.w0 & b.w0,
+        w1: a.w1 & b.w1,
+        w2: a.w2 & b.w2,
+        w3: a.w3 & b.w3,
+    }
+}
+
+// The states in either set.
+pub fn join(a: StateSet, b: StateSet) -> StateSet
+    ensures { λ r. ⌜ ((i : ℕ) → member r i ≡ (member a i || member b i)) ⌝ }
+{
+    StateSet {
+        w0: a.w0 | b.w0,
+        w1: a.w1 | b.w1,
+        w2: a.w2 | b.w2,
+        w3: a.w3 | b.w3,
+    }
+}
+
+// The states of `a` that are not in `b`.
+pub fn without(a: StateSet, b: StateSet) -> StateSet
+    ensures { λ r. ⌜ ((i : ℕ) → member r i ≡ (member a i && not (member b i))) ⌝ }
+{
+    StateSet {
+        w0: a.w0 & !b.w0,
+        w1: a.w1 & !b.w1,
+        w2: a.w2 & !b.w2,
+        w3: a.w3 & !b.w3,
+    }
+}
+
+// Word k of a set.
+fn word(a: StateSet, k: u8) -> u64
+    requires { ⌜ k < 4 ⌝ }
+    ensures { λ r. ⌜ r ≡ wordAt a k ⌝ }
+{
+    if k == 0 {
+        a.w0
+    } else if k == 1 {
+        a.w1
+    } else if k == 2 {
+        a.w2
+    } else {
+        a.w3
+    }
+}
+
+pub fn contains(a: StateSet, state: u8) -> bool
+    ensures { λ r. ⌜ r ≡ member a state ⌝ }
+{
+    (word(a, state / 64) >> (state % 64)) % 2 == 1
+}
+
+// The lowest state of a word that is not 0; `first` is the state of its first bit.
+fn lowest_in(word: u64, first: u8) -> u8
+    requires { ⌜ (0 < word) × (first < 193) ⌝ }
+    ensures { λ r. ⌜ r ≡ first + trailingZeros 64 word ⌝ }
+{
+    first + u64::trailing_zeros(word) as u8
+}
+
+pub fn lowest(a: StateSet) -> Found
+    ensures { λ r. ⌜ stateFound r ≡ lowest (member a) 256 ⌝ }
+{
+    if a.w0 != 0 {
+        return Found::State(lowest_in(a.w0, 0));
+    }
+    if a.w1 != 0 {
+        return Found::State(lowest_in(a.w1, 64));
+    }
+    if a.w2 != 0 {
+        return Found::State(lowest_in(a.w2, 128));
+    }
+    if a.w3 != 0 {
+        return Found::State(lowest_in(a.w3, 192));
+    }
+    Found::Nothing
+}
+
+// Set k of a row.
+pub fn load(row: &[u64], k: usize) -> StateSet
+    requires { ⌜ k * 4 + 3 < length (now row) ⌝ }
+    ensures { λ r. ⌜ r ≡ setAt (now (row .entry)) k ⌝ }
+{
+    let at = k * 4;
+    StateSet {
+        w0: row[at],
+        w1: row[at + 1],
+        w2: row[at + 2],
+        w3: row[at + 3],
+    }
+}
+
+pub fn store(row: &mut [u64], k: usize, a: StateSet)
+    requires { ⌜ k * 4 + 3 < length (now row) ⌝ }
+    ensures { λ _. ⌜ Stored k a (now (row .entry)) (now (row .exit)) ⌝ }
+{
+    let at = k * 4;
+    row[at] = a.w0;
+    row[at + 1] = a.w1;
+    row[at + 2] = a.w2;
+    row[at + 3] = a.w3;
+}
+
+// Adds a state to set k of a row.
+pub fn insert(row: &mut [u64], k: usize, state: u8)
+    requires { ⌜ k * 4 + 3 < length (now row) ⌝ }
+    ensures { λ _. ⌜ Inserted k state (now (row .entry)) (now (row .exit)) ⌝ }
+{
+    let a = load(row, k);
+    store(row, k, join(a, single(state)));
+}
