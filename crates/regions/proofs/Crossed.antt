@@ -1,0 +1,102 @@
+-- The rows' crossings are those of the machine that the rows give: so what the code compares in the rows tells whether an event is uniform, and its move.
+use Prim.Native.Nat.{ℕ, zero, suc, _+_, _*_, _<_}
+use native.Mathlib.Omega.{arith}
+use mathlib.Core.Path.{_≡_, ap, sym, _∙_, subst}
+use mathlib.Core.Logic.{_⊎_, inl, inr}
+use mathlib.Core.Bool.{not, cond}
+use mathlib.Core.List.{List, [], _∷_, List·Memᴰ, List·Memᴰ·head, Memᴰ·append-left, Memᴰ·append-right, List·Memᴰ·append-cases, List·Memᴰ·eq-of-singleton}
+use mathlib.Core.Option.{Option, none, some}
+use lib.Dec.{T, eqb, ltb}
+use borrow.Author.Tests.{lt-ltb}
+use Rattle.model.specs.Lists.{every}
+use Rattle.model.specs.TransitionSystem.{Transition, TransitionSystem}
+use Rattle.model.specs.Machine.{Machine, Move, placeOf, move, uniform}
+use Rattle.model.proofs.Laws.{dec, T-true, T-false, contra, not-T, below-suc}
+use Rattle.reader.specs.Told.{entry, firstTransitions}
+use Rattle.regions.specs.Moves.{moveAt}
+use Rattle.regions.specs.Crossings.{crossingAt, agreeing, preMark, Scannable}
+use Rattle.regions.proofs.Alike.{Alike, agreeing-alike, alike-agreeing, through, Level, uniform-alike, level-move}
+
+-- transition k of three rows
+abbrev pub transitionAt : List ℕ → List ℕ → List ℕ → ℕ → Transition
+transitionAt source event target k = record { source = entry source k; event = entry event k; target = entry target k }
+
+module _ (source event target : List ℕ) where
+  at-listed : (n k : ℕ) → k < n → List·Memᴰ (transitionAt source event target k) (firstTransitions source event target n)
+  unfolding firstTransitions
+  at-listed zero k l = absurd (omega arith)
+  at-listed (suc n) k l = go (below-suc k n l) (at-listed n k)
+    where
+      go : (k < n) ⊎ (k ≡ n) → (k < n → List·Memᴰ (transitionAt source event target k) (firstTransitions source event target n))
+          → List·Memᴰ (transitionAt source event target k) (firstTransitions source event target (suc n))
+      go (inl b) ih = Memᴰ·append-left (transitionAt source event target n ∷ []) (ih b)
+      go (inr q) ih = Memᴰ·append-right (firstTransitions source event target n) (List·Memᴰ·head (ap (transitionAt source event target) q))
+
+  listed-at : (n : ℕ) (t : Transition) → List·Memᴰ t (firstTransitions source event target n) → (k : ℕ) × (k < n) × (t ≡ transitionAt source event target k)
+  unfolding firstTransitions
+  listed-at zero t m = elim m [ ]
+  listed-at (suc n) t m = go (List·Memᴰ·append-cases (firstTransitions source event target n) m) (listed-at n t)
+    where
+      go : List·Memᴰ t (firstTransitions source event target n) ⊎ List·Memᴰ t (transitionAt source event target n ∷ [])
+          → (List·Memᴰ t (firstTransitions source event target n) → (k : ℕ) × (k < n) × (t ≡ transitionAt source event target k))
+          → (k : ℕ) × (k < suc n) × (t ≡ transitionAt source event target k)
+      go (inl b) ih = let w = ih b in (w .0, omega (arith, w .1), w .2)
+      go (inr b) ih = (n, omega arith, List·Memᴰ·eq-of-singleton b)
+
+module _ (ts : TransitionSystem) (mach : Machine) (m : ℕ) (source event target place : List ℕ) (n : ℕ) (s : Scannable ts mach m source event target place n) where
+  here : (k : ℕ) → k < n → List·Memᴰ (transitionAt source event target k) (ts .transitions)
+  here k l = rw (s .transitions) (at-listed source event target n k l)
+
+  crossed : (k : ℕ) → k < n → crossingAt source target place m k ≡ through mach (transitionAt source event target k)
+  unfolding crossingAt
+  crossed k l =
+      let p = s .told (entry source k) (s .within .source (transitionAt source event target k) (here k l)) in
+      let q = s .told (entry target k) (s .within .target (transitionAt source event target k) (here k l)) in
+      cc
+
+  alike-at : (f k : ℕ) → f < n → k < n → T (agreeing (crossingAt source target place m f) (crossingAt source target place m k))
+      → Alike (through mach (transitionAt source event target f)) (through mach (transitionAt source event target k))
+  alike-at f k lf lk h =
+      agreeing-alike (through mach (transitionAt source event target f)) (through mach (transitionAt source event target k)) (rw (crossed f lf, crossed k lk) at h)
+
+  -- the code has found no transition that leads otherwise than f
+  pub rows-level :
+      (e f : ℕ) → f < n → entry event f ≡ e
+      → ((k : ℕ) → k < n → entry event k ≡ e → T (agreeing (crossingAt source target place m f) (crossingAt source target place m k)))
+      → Level ts mach e (transitionAt source event target f)
+  rows-level e f l q h = record { listed = here f l; label = q; alike = alike }
+    where
+      alike : (u : Transition) → List·Memᴰ u (ts .transitions) → u .event ≡ e → Alike (through mach (transitionAt source event target f)) (through mach u)
+      alike u i r =
+          let w = listed-at source event target n u (rw (s .transitions) at i) in
+          let v = alike-at f (w .0) l (w .1) (h (w .0) (w .1) (sym (ap (λ (t : Transition). t .event) (w .2)) ∙ r)) in
+          subst (λ (t : Transition). Alike (through mach (transitionAt source event target f)) (through mach t)) (sym (w .2)) v
+
+  -- the code has found one that does
+  pub rows-uneven :
+      (e f k : ℕ) → f < n → k < n → entry event f ≡ e → entry event k ≡ e
+      → T (not (agreeing (crossingAt source target place m f) (crossingAt source target place m k))) → T (not (every (uniform ts e) (mach .places)))
+  rows-uneven e f k lf lk qf qk h =
+      not-T (every (uniform ts e) (mach .places))
+      (λ u. contra (agreeing (through mach (transitionAt source event target f)) (through mach (transitionAt source event target k))) (rw (crossed f lf, crossed k lk) at h)
+      (alike-agreeing (through mach (transitionAt source event target f)) (through mach (transitionAt source event target k))
+      (uniform-alike ts mach (s .within) (s .placed) e u (transitionAt source event target f) (transitionAt source event target k) (here f lf) (here k lk) qf qk)))
+
+  -- the move that the code writes
+  pub rows-move :
+      (pre post : List ℕ) (e f : ℕ) → f < n → Level ts mach e (transitionAt source event target f)
+      → entry pre (m * 64 + e) ≡ preMark (crossingAt source target place m f) → entry post (m * 64 + e) ≡ crossingAt source target place m f .post
+      → moveAt pre post m e ≡ move ts mach e
+  unfolding moveAt preMark
+  rows-move pre post e f l v p q =
+      rw (p, q, crossed f l) (go (placeOf mach (entry source f)) (placeOf mach (entry target f)) (s .low (entry source f) (s .within .source (transitionAt source event target f) (here f l))))
+      ∙ sym (level-move ts mach (s .within) (s .placed) e (transitionAt source event target f) v)
+    where
+      go : (x y : ℕ) → x < 64
+          → _≡_ {A = Option Move} (cond (ltb (cond (eqb x y) 255 x) 64) (some (record { pre = cond (eqb x y) 255 x; post = y })) none) (cond (eqb x y) none (some (record { pre = x; post = y })))
+      go x y b = at (dec (eqb x y))
+        where
+          at : T (eqb x y) ⊎ T (not (eqb x y))
+              → _≡_ {A = Option Move} (cond (ltb (cond (eqb x y) 255 x) 64) (some (record { pre = cond (eqb x y) 255 x; post = y })) none) (cond (eqb x y) none (some (record { pre = x; post = y })))
+          at (inl t) = rw (T-true (eqb x y) t)
+          at (inr t) = rw (T-false (eqb x y) t, lt-ltb x 64 b)

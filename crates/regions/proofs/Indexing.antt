@@ -1,0 +1,81 @@
+-- The chains of transitions, made from the last transition to the first, and a walk along them.
+use Prim.Native.Nat.{ℕ, suc, _-_, _<_, _≤_}
+use native.Mathlib.Omega.{arith}
+use borrow.Author.Tests.{eq-eqb, ne-eqb}
+use mathlib.Core.Path.{_≡_, ap, sym, _∙_}
+use mathlib.Core.Logic.{_⊎_, inl, inr}
+use mathlib.Core.Bool.{not}
+use mathlib.Core.List.{List}
+use lib.Dec.{T, eqb, eqb→eq}
+use lib.ListN.{length, set, replicate, length-set, length-replicate, getD-replicate}
+use lib.Seq.{getD-set-same, getD-set-other}
+use Rattle.model.proofs.Laws.{dec, contra, eqb-of}
+use Rattle.reader.specs.Told.{entry}
+use Rattle.regions.specs.Indexed.{nextIn, nextOf, Indexed}
+
+equal : (a b : ℕ) → (a ≡ b) ⊎ (¬ (a ≡ b))
+equal a b = go (dec (eqb a b))
+  where
+    go : T (eqb a b) ⊎ T (not (eqb a b)) → (a ≡ b) ⊎ (¬ (a ≡ b))
+    go (inl t) = inl (eqb→eq a b t)
+    go (inr t) = inr (λ q. contra (eqb a b) t (eqb-of a b q))
+
+module _ (event : List ℕ) (n e k : ℕ) where
+  next-end : n ≤ k → nextOf event n e k ≡ k
+  unfolding nextIn
+  next-end h = let z : n - k ≡ 0 = omega arith in rw z
+
+  next-here : k < n → entry event k ≡ e → nextOf event n e k ≡ k
+  unfolding nextIn
+  next-here h q = let z : n - k ≡ suc (n - suc k) = omega arith in rw (z, eq-eqb (entry event k) e q)
+
+  next-past : k < n → ¬ (entry event k ≡ e) → nextOf event n e k ≡ nextOf event n e (suc k)
+  unfolding nextIn
+  next-past h q = let z : n - k ≡ suc (n - suc k) = omega arith in rw (z, ne-eqb (entry event k) e q)
+
+-- the rows tell of the transitions from k on
+pub record Indexing (event : List ℕ) (n k : ℕ) (first next : List ℕ) : Type 0 where
+  pub most : k ≤ n
+  pub first-size : length first ≡ 64
+  pub next-size : length next ≡ 1024
+  pub starts : (e : ℕ) → e < 64 → entry first e ≡ nextOf event n e k
+  pub follows : (j : ℕ) → k ≤ j → j < n → entry next j ≡ nextOf event n (entry event j) (suc j)
+
+pub index-none : (event : List ℕ) (n : ℕ) (first next : List ℕ) → first ≡ replicate 64 n → length next ≡ 1024 → Indexing event n n first next
+index-none event n first next p q =
+    record {
+      most = omega arith;
+      first-size = ap length p ∙ length-replicate 64 n;
+      next-size = q;
+      starts = λ e h. ap (λ (l : List ℕ). entry l e) p ∙ getD-replicate 64 e n 0 h ∙ sym (next-end event n e n (omega arith));
+      follows = λ j h b. absurd (omega arith);
+    }
+
+-- one transition more
+pub index-more :
+    {event first next : List ℕ} {n k j e r : ℕ} → Indexing event n k first next → n ≤ 1024 → suc j ≡ k → e ≡ entry event j → e < 64 → r ≡ j
+    → Indexing event n j (set first e r) (set next j (entry first e))
+index-more {event} {first} {next} {n} {k} {j} {e} {r} i most q at low here =
+    record {
+      most = omega (arith, i .most);
+      first-size = length-set first e r ∙ i .first-size;
+      next-size = length-set next j (entry first e) ∙ i .next-size;
+      starts = λ d h. start d h (equal d e);
+      follows = λ l h b. follow l h b (equal l j);
+    }
+  where
+    start : (d : ℕ) → d < 64 → (d ≡ e) ⊎ (¬ (d ≡ e)) → entry (set first e r) d ≡ nextOf event n d j
+    start d h (inl s) =
+        rw (s, getD-set-same first e r 0 (omega (arith, i .first-size))) (here ∙ sym (next-here event n e j (omega (arith, i .most)) (sym at)))
+    start d h (inr s) =
+        getD-set-other first e d r 0 s
+        ∙ i .starts d h
+        ∙ rw (← q) (sym (next-past event n d j (omega (arith, i .most)) (λ w. s (sym w ∙ sym at))))
+
+    follow : (l : ℕ) → j ≤ l → l < n → (l ≡ j) ⊎ (¬ (l ≡ j)) → entry (set next j (entry first e)) l ≡ nextOf event n (entry event l) (suc l)
+    follow l h b (inl s) = rw (s, getD-set-same next j (entry first e) 0 (omega (arith, i .next-size)), ← at, q) (i .starts e low)
+    follow l h b (inr s) = getD-set-other next j l (entry first e) 0 s ∙ i .follows l (omega arith) b
+
+pub index-all : {event first next : List ℕ} {n : ℕ} → Indexing event n 0 first next → Indexed event n first next
+index-all i =
+    record { first-size = i .first-size; next-size = i .next-size; starts = i .starts; follows = λ k h. i .follows k (omega arith) h }

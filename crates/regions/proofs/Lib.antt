@@ -1,0 +1,17 @@
+-- The laws behind the functions that check regions.
+
+-- how transitions lead through a machine, and events whose transitions lead alike
+pub mod Agreeing
+pub mod Alike
+-- a search in rising order
+pub mod Searching
+-- the chains of transitions: how they are made, that each has a beginning and an end, and the walk along one
+pub mod Indexing
+pub mod Chain
+pub mod Chains
+-- what the rows tell of a machine: 8 and 9; the crossings of its transitions
+pub mod Marks
+pub mod Crossed
+-- the scan for 10, and the loop over the machines
+pub mod Scan
+pub mod Checking

@@ -1,0 +1,135 @@
+-- What the scan of a machine has found so far. The code has no row of events, so what speaks of one holds for each that the chains are made from.
+use Prim.Native.Nat.{ℕ, suc, _+_, _*_, _<_, _≤_}
+use native.Mathlib.Omega.{arith}
+use mathlib.Core.Path.{_≡_, refl, ap, sym, _∙_, subst}
+use mathlib.Core.Logic.{_⊎_, inl, inr}
+use mathlib.Core.Bool.{Bool, true, false, not}
+use mathlib.Core.List.{List}
+use mathlib.Core.Option.{some}
+use lib.Dec.{T}
+use lib.ListN.{set, length-set}
+use lib.Seq.{getD-set-same, getD-set-other}
+use borrow.Author.Count.{below-none, below-more}
+use borrow.Author.Tests.{lt-ltb, le-ltb, not-false}
+use Rattle.model.specs.Lists.{every, lowest}
+use Rattle.model.specs.TransitionSystem.{TransitionSystem}
+use Rattle.model.specs.Machine.{Machine, uniform, nonuniformEvent}
+use Rattle.model.proofs.Laws.{Lowest, found, absent, lowest-view, none-lowest, not-T, contra, order}
+use Rattle.reader.specs.Told.{entry, below}
+use Rattle.regions.specs.declared.Crossing.{Crossing}
+use Rattle.regions.specs.Moves.{moveAt, MoveRows}
+use Rattle.regions.specs.Indexed.{nextOf, Indexed, Chained}
+use Rattle.regions.specs.Crossings.{crossingAt, agreeing, preMark, Scannable, Scanned, EarlierKept}
+use Rattle.regions.proofs.Alike.{Level, level-uniform}
+use Rattle.regions.proofs.Chain.{Next, next-of}
+use Rattle.regions.proofs.Crossed.{transitionAt, rows-level, rows-uneven, rows-move}
+
+-- the transitions of the event before k agree with the crossing, and at k stands one of the event
+pub record Walk (source target place first next : List ℕ) (n m e : ℕ) (one : Crossing) (k : ℕ) : Type 0 where
+  pub passed : (event : List ℕ) → Indexed event n first next → (j : ℕ) → j < k → j < n → entry event j ≡ e → T (agreeing one (crossingAt source target place m j))
+  pub stands : (event : List ℕ) → Indexed event n first next → k < n → entry event k ≡ e
+
+module _ {source target place first next : List ℕ} {n m e : ℕ} {one : Crossing} where
+  pub walk-start : (k : ℕ) → e < 64 → k ≡ entry first e → Walk source target place first next n m e one k
+  walk-start k l q = record {
+    passed = λ event x j a b h. absurd (start event x .free j (omega arith) a h);
+    stands = λ event x. start event x .stands;
+  }
+    where
+      start : (event : List ℕ) → Indexed event n first next → Next event e 0 n k
+      start event x = subst (λ (z : ℕ). Next event e 0 n z) (sym (x .starts e l) ∙ sym q) (next-of event n e 0 (omega arith))
+
+  pub walk-next :
+      {k : ℕ} (k2 : ℕ) (other : Crossing) (r : Bool) → k < n → k2 ≡ entry next k → other ≡ crossingAt source target place m k → r ≡ agreeing one other → not r ≡ false
+      → Walk source target place first next n m e one k → Walk source target place first next n m e one k2
+  walk-next {k} k2 other r l q oq rq f w = record { passed = passed; stands = λ event x. after event x .stands }
+    where
+      after : (event : List ℕ) → Indexed event n first next → Next event e (suc k) n k2
+      after event x =
+          subst (λ (z : ℕ). Next event e (suc k) n z) (ap (λ (d : ℕ). nextOf event n d (suc k)) (sym (w .stands event x l)) ∙ sym (x .follows k l) ∙ sym q)
+          (next-of event n e (suc k) l)
+
+      passed : (event : List ℕ) → Indexed event n first next → (j : ℕ) → j < k2 → j < n → entry event j ≡ e → T (agreeing one (crossingAt source target place m j))
+      passed event x j a b h = at (order j k) (order k j)
+        where
+          at : (j < k) ⊎ (k ≤ j) → (k < j) ⊎ (j ≤ k) → T (agreeing one (crossingAt source target place m j))
+          at (inl y) z = w .passed event x j y b h
+          at (inr y) (inl z) = absurd (after event x .free j z a h)
+          at (inr y) (inr z) = let s : j ≡ k = omega arith in rw (s, ← oq, ← rq, not-false r f) tt
+
+-- the events before e are level, and their moves in the rows
+pub record Sofar (source target place first next : List ℕ) (n m : ℕ) (pre₀ post₀ pre post : List ℕ) (e : ℕ) : Type 0 where
+  pub kept : EarlierKept m pre₀ post₀ pre post
+  pub alike : (d : ℕ) → d < e → (event : List ℕ) → Indexed event n first next → (j : ℕ) → j < n → entry event j ≡ d
+      → T (agreeing (crossingAt source target place m (entry first d)) (crossingAt source target place m j))
+  pub pres : (d : ℕ) → d < e → entry pre (m * 64 + d) ≡ preMark (crossingAt source target place m (entry first d))
+  pub posts : (d : ℕ) → d < e → entry post (m * 64 + d) ≡ crossingAt source target place m (entry first d) .post
+
+-- an entry of machine m changes nothing before it
+kept-put :
+    (m : ℕ) (pre₀ post₀ pre post : List ℕ) (e x y : ℕ) → EarlierKept m pre₀ post₀ pre post → EarlierKept m pre₀ post₀ (set pre (m * 64 + e) x) (set post (m * 64 + e) y)
+unfolding moveAt
+kept-put m pre₀ post₀ pre post e x y k = record {
+  rows = record { pre-size = length-set pre (m * 64 + e) x ∙ k .rows .pre-size; post-size = length-set post (m * 64 + e) y ∙ k .rows .post-size };
+  same = λ j d l b. let q : j * 64 + d ≡ m * 64 + e → ⊥ = λ r. omega arith in
+      rw (getD-set-other pre (m * 64 + e) (j * 64 + d) x 0 q, getD-set-other post (m * 64 + e) (j * 64 + d) y 0 q) (k .same j d l b);
+}
+
+module _ {source target place first next : List ℕ} {n m : ℕ} where
+  pub sofar-start : {pre post : List ℕ} → MoveRows pre post → Sofar source target place first next n m pre post pre post 0
+  sofar-start r = record { kept = record { rows = r; same = λ j e l b. refl }; alike = below-none _; pres = below-none _; posts = below-none _ }
+
+  pub sofar-next :
+      {pre₀ post₀ pre post : List ℕ} {e : ℕ} (one : Crossing) (k x : ℕ) → one ≡ crossingAt source target place m (entry first e) → x ≡ preMark one → m < 16 → e < 64 → n ≤ k
+      → Walk source target place first next n m e one k → Sofar source target place first next n m pre₀ post₀ pre post e
+      → Sofar source target place first next n m pre₀ post₀ (set pre (m * 64 + e) x) (set post (m * 64 + e) (one .post)) (e + 1)
+  sofar-next {pre₀} {post₀} {pre} {post} {e} one k x q p lm le l w s = record {
+    kept = kept-put m pre₀ post₀ pre post e x (one .post) (s .kept);
+    alike = below-more _ e (s .alike) (λ event i j b r. rw q at (w .passed event i j (omega arith) b r));
+    pres = below-more _ e (λ d b. getD-set-other pre (m * 64 + e) (m * 64 + d) x 0 (λ r. omega arith) ∙ s .pres d b)
+        (getD-set-same pre (m * 64 + e) x 0 (omega (arith, s .kept .rows .pre-size)) ∙ p ∙ ap preMark q);
+    posts = below-more _ e (λ d b. getD-set-other post (m * 64 + e) (m * 64 + d) (one .post) 0 (λ r. omega arith) ∙ s .posts d b)
+        (getD-set-same post (m * 64 + e) (one .post) 0 (omega (arith, s .kept .rows .post-size)) ∙ ap (λ (z : Crossing). z .post) q);
+  }
+
+-- at the first event that is not level, or past the last
+module _ {source target place first next : List ℕ} {n m events : ℕ} {pre₀ post₀ pre post : List ℕ} {e : ℕ} (le : events ≤ 64) (ch : Chained n events first next) (so : Sofar source target place first next n m pre₀ post₀ pre post e) (ed : e ≤ events)
+    (event : List ℕ) (ts : TransitionSystem) (mach : Machine) (i : Indexed event n first next) (s : Scannable ts mach m source event target place n) (q : events ≡ ts .events) where
+  begins : (d : ℕ) → d < events → entry event (entry first d) ≡ d
+  begins d l = subst (λ (z : ℕ). Next event d 0 n z) (sym (i .starts d (omega arith))) (next-of event n d 0 (omega arith)) .stands (ch .begins d l)
+
+  level : (d : ℕ) → d < e → Level ts mach d (transitionAt source event target (entry first d))
+  level d l = rows-level ts mach m source event target place n s d (entry first d) (ch .begins d (omega arith)) (begins d (omega arith)) (so .alike d l event i)
+
+  answered : below (ts .events) e ≡ nonuniformEvent ts mach → Scanned ts mach m pre post e
+  answered h = record {
+    most = omega arith;
+    event = h;
+    moves = λ d l. rows-move ts mach m source event target place n s pre post d (entry first d) (ch .begins d (omega arith)) (level d l) (so .pres d l) (so .posts d l);
+  }
+
+  even : (d : ℕ) → d < e → T (not (not (every (uniform ts d) (mach .places))))
+  even d l = not-T (not (every (uniform ts d) (mach .places))) (λ x. contra (every (uniform ts d) (mach .places)) x (level-uniform ts mach (s .within) (s .placed) d (transitionAt source event target (entry first d)) (level d l)))
+
+  pub scanned-all : events ≤ e → Scanned ts mach m pre post e
+  unfolding below nonuniformEvent
+  scanned-all l =
+      answered (rw (le-ltb e (ts .events) (omega arith)) (sym (none-lowest (λ d. not (every (uniform ts d) (mach .places))) (ts .events) (λ d b. even d (omega arith)))))
+
+  pub scanned-uneven :
+      (one other : Crossing) (r : Bool) (k : ℕ) → e < events → k < n → one ≡ crossingAt source target place m (entry first e) → other ≡ crossingAt source target place m k
+      → r ≡ agreeing one other → not r ≡ true → Walk source target place first next n m e one k → Scanned ts mach m pre post e
+  unfolding below nonuniformEvent
+  scanned-uneven one other r k l lk p oq rq f w = answered (rw (lt-ltb e (ts .events) (omega arith)) (sym (go (lowest-view (λ d. not (every (uniform ts d) (mach .places))) (ts .events)))))
+    where
+      bad : T (not (every (uniform ts e) (mach .places)))
+      bad = rows-uneven ts mach m source event target place n s e (entry first e) k (ch .begins e l) lk (begins e l) (w .stands event i lk) (rw (← p, ← oq, ← rq, f) tt)
+
+      go : Lowest (λ d. not (every (uniform ts d) (mach .places))) (ts .events) → lowest (λ d. not (every (uniform ts d) (mach .places))) (ts .events) ≡ some e
+      go (absent a b) = absurd (contra (not (every (uniform ts e) (mach .places))) (b e (omega arith)) bad)
+      go (found j a b t f) = at (order j e) (order e j)
+        where
+          at : (j < e) ⊎ (e ≤ j) → (e < j) ⊎ (j ≤ e) → lowest (λ d. not (every (uniform ts d) (mach .places))) (ts .events) ≡ some e
+          at (inl x) y = absurd (contra (not (every (uniform ts j) (mach .places))) (even j x) t)
+          at (inr x) (inl y) = absurd (contra (not (every (uniform ts e) (mach .places))) (f e y) bad)
+          at (inr x) (inr y) = a ∙ ap some (omega arith)

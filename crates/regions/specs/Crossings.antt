@@ -1,0 +1,52 @@
+-- How transitions lead through a machine, and what the scan for 10 answers.
+use Prim.Native.Nat.{ℕ, _+_, _*_, _<_, _≤_}
+use mathlib.Core.Path.{_≡_}
+use mathlib.Core.Bool.{Bool, cond, _&&_}
+use mathlib.Core.List.{List}
+use lib.Dec.{eqb}
+use lib.ListN.{length}
+use Rattle.model.specs.TransitionSystem.{TransitionSystem}
+use Rattle.model.specs.Machine.{Machine, placeOf, nonuniformEvent}
+use Rattle.model.specs.Machine as M
+use Rattle.model.proofs.Bounds.{Within}
+use Rattle.model.proofs.Places.{Placed}
+use Rattle.reader.specs.Told.{entry, firstTransitions, below}
+use Rattle.regions.specs.declared.Crossing.{Crossing}
+use Rattle.regions.specs.Moves.{moveAt, MoveRows}
+
+-- transition k through machine m, by the rows
+unfoldable pub crossingAt : List ℕ → List ℕ → List ℕ → ℕ → ℕ → Crossing
+crossingAt source target place m k =
+    record { pre = entry place (m * 256 + entry source k); post = entry place (m * 256 + entry target k) }
+
+-- both stay in their place, or both lead from one place to the same other place
+unfoldable pub agreeing : Crossing → Crossing → Bool
+agreeing a b = cond (eqb (a .pre) (a .post)) (eqb (b .pre) (b .post)) (eqb (a .pre) (b .pre) && eqb (a .post) (b .post))
+
+-- the pre-place in the rows of moves: 255 if the event stays
+unfoldable pub preMark : Crossing → ℕ
+preMark a = cond (eqb (a .pre) (a .post)) 255 (a .pre)
+
+pub record RowSizes (source target place : List ℕ) : Type 0 where
+  pub sources : length source ≡ 1024
+  pub targets : length target ≡ 1024
+  pub places : length place ≡ 4096
+
+-- The rows give machine k, past 8 and 9, of a transition system whose events all have transitions.
+pub record Scannable (ts : TransitionSystem) (m : Machine) (k : ℕ) (source event target place : List ℕ) (n : ℕ) : Type 0 where
+  pub within : Within ts
+  pub transitions : ts .transitions ≡ firstTransitions source event target n
+  pub placed : Placed ts m
+  pub told : (x : ℕ) → x < ts .states → entry place (k * 256 + x) ≡ placeOf m x
+  pub low : (x : ℕ) → x < ts .states → placeOf m x < 64
+
+-- what the scan of machine k answers, and leaves in the rows of moves
+pub record Scanned (ts : TransitionSystem) (m : Machine) (k : ℕ) (pre post : List ℕ) (r : ℕ) : Type 0 where
+  pub most : r ≤ ts .events
+  pub event : below (ts .events) r ≡ nonuniformEvent ts m
+  pub moves : (e : ℕ) → e < r → moveAt pre post k e ≡ M.move ts m e
+
+-- the moves on the machines before k are as they were
+pub record EarlierKept (k : ℕ) (pre post pre2 post2 : List ℕ) : Type 0 where
+  pub rows : MoveRows pre2 post2
+  pub same : (j e : ℕ) → j < k → e < 64 → moveAt pre2 post2 j e ≡ moveAt pre post j e
