@@ -1,0 +1,119 @@
+-- One transition more: what 4 and 5 say of it, and of the sets that it goes into.
+use Prim.Native.Nat.{ℕ, suc, _+_, _<_}
+use native.Mathlib.Decide.{ℕ-discrete}
+use mathlib.Core.Path.{_≡_, refl, sym, ap, _∙_}
+use mathlib.Core.Bool.{Bool, true, false, _&&_, _||_}
+use mathlib.Core.List.{List, [], _∷_, _++_}
+use mathlib.Core.Option.{none, Option·some-ne-none}
+use borrow.Author.Tests.{eq-eqb, ne-eqb}
+use lib.Dec.{eqb}
+use Rattle.model.specs.declared.Refusal.the-variants.{SelfLoop, Nondeterministic}
+use Rattle.model.specs.Cases.{tabled}
+use Rattle.model.specs.Lists.{exists, index}
+use Rattle.model.specs.TransitionSystem.{Transition, leads, transitionRefusal}
+use Rattle.reader.specs.declared.Verdict.{Verdict}
+use Rattle.reader.specs.declared.Verdict.the-variants.{Refused, Passed}
+use Rattle.reader.specs.Tables.{verdictRefusal}
+use Rattle.reader.specs.Told.{entry, transitionAt, firstTransitions}
+use Rattle.state_set.specs.declared.StateSet.{StateSet}
+use Rattle.state_set.specs.Member.{member}
+use Rattle.state_set.specs.Rows.{setAt, memberAt, Inserted}
+use Rattle.transition_system.specs.Sets.{Excitations, Successors, SetsOf, InRows, joins}
+use Rattle.transition_system.proofs.Fronts.{front-length}
+
+-- ---- one transition more in the sets
+or-assoc : (a b c : Bool) → (a || (b || c)) ≡ ((a || b) || c)
+or-assoc true b c = refl
+or-assoc false b c = refl
+
+or-false : (a : Bool) → (a || false) ≡ a
+or-false true = refl
+or-false false = refl
+
+and-comm : (a b : Bool) → (a && b) ≡ (b && a)
+and-comm true true = refl
+and-comm true false = refl
+and-comm false true = refl
+and-comm false false = refl
+
+eqb-comm : (a b : ℕ) → eqb a b ≡ eqb b a
+eqb-comm a b = elim (ℕ-discrete a b) [
+  | yes e ↦ eq-eqb a b e ∙ sym (eq-eqb b a (sym e))
+  | no n ↦ ne-eqb a b n ∙ sym (ne-eqb b a (λ e. n (sym e)))
+]
+
+exists-more : {A : Type 0} (f : A → Bool) (xs : List A) (y : A) → exists f (xs ++ (y ∷ [])) ≡ (exists f xs || f y)
+unfolding exists
+exists-more f [] y = or-false (f y)
+exists-more f (x ∷ xs) y = ap (λ (b : Bool). f x || b) (exists-more f xs y) ∙ or-assoc (f x) (exists f xs) (f y)
+
+module _ {ts : List Transition} (t : Transition) {old new : List ℕ} where
+  excites-more : Excitations ts old → Inserted (t .event) (t .source) old new → Excitations (ts ++ (t ∷ [])) new
+  unfolding leads
+  excites-more x i = record { size = i .size ∙ x .size; members = at }
+    where
+      at : (e s : ℕ) → e < 64 → memberAt new e s ≡ exists (leads s e) (ts ++ (t ∷ []))
+      at e s l =
+          rw (
+            exists-more (leads s e) ts t,
+            i .members e s,
+            x .members e s l,
+            eqb-comm (t .source) s,
+            eqb-comm (t .event) e,
+            and-comm (eqb s (t .source)) (eqb e (t .event)),
+          )
+
+  follows-more : Successors ts old → Inserted (t .source) (t .target) old new → Successors (ts ++ (t ∷ [])) new
+  unfolding joins
+  follows-more x i = record { size = i .size ∙ x .size; members = at }
+    where
+      at : (s u : ℕ) → s < 256 → memberAt new s u ≡ exists (joins s u) (ts ++ (t ∷ []))
+      at s u l = rw (exists-more (joins s u) ts t, i .members s u, x .members s u l, eqb-comm (t .source) s, eqb-comm (t .target) u)
+
+-- ---- what adding transition k of the rows answers
+abbrev Added : List ℕ → List ℕ → List ℕ → ℕ → Verdict → List ℕ → List ℕ → Type 0
+Added source event target k v excited successors =
+    (verdictRefusal v ≡ transitionRefusal (firstTransitions source event target k) (transitionAt source event target k))
+    × (verdictRefusal v ≡ none → SetsOf (firstTransitions source event target (suc k)) excited successors)
+
+-- what `wide`, `load` and `contains` gave, in that order
+pub tested : (row : List ℕ) (s : ℕ) {e w : ℕ} {set : StateSet} {r : Bool} → w ≡ e → set ≡ setAt row w → r ≡ member set s → r ≡ memberAt row e s
+unfolding memberAt
+tested row s p q h = h ∙ ap (λ (x : StateSet). member x s) (q ∙ ap (setAt row) p)
+
+-- transition k of the rows
+module _ {source event target : List ℕ} {k : ℕ} (rows : InRows source event target k) where
+  pub stands : {excited successors : List ℕ} → entry source k ≡ entry target k
+      → Added source event target k (Refused (SelfLoop (k + 3))) excited successors
+  unfolding verdictRefusal tabled transitionRefusal
+  stands e =
+      (rw (eq-eqb (entry source k) (entry target k) e, front-length source event target k), λ n. absurd (Option·some-ne-none _ n))
+
+  -- 4 has passed it. The sets are those of the transitions before it, and r says whether one of these leads from its source by its event
+  module _
+      {excited₀ successors₀ : List ℕ} {r : Bool}
+      (sets : SetsOf (firstTransitions source event target k) excited₀ successors₀)
+      (moves : entry source k ≡ entry target k → ⊥)
+      (test : r ≡ memberAt excited₀ (entry event k) (entry source k)) where
+    exists-before : r ≡ exists (leads (entry source k) (entry event k)) (firstTransitions source event target k)
+    exists-before = test ∙ sets .excitations .members (entry event k) (entry source k) (rows .label)
+
+    pub forks : {excited successors : List ℕ} {i : ℕ} → r ≡ true
+        → i ≡ index (leads (entry source k) (entry event k)) (firstTransitions source event target k)
+        → Added source event target k (Refused (Nondeterministic (k + 3) (i + 3))) excited successors
+    unfolding verdictRefusal tabled transitionRefusal
+    forks t e = (
+      rw (ne-eqb (entry source k) (entry target k) moves, ← exists-before, t, ← e, front-length source event target k),
+      λ n. absurd (Option·some-ne-none _ n),
+    )
+
+    pub enters : {excited successors : List ℕ} {v w : ℕ} → r ≡ false → v ≡ entry event k → Inserted v (entry source k) excited₀ excited
+        → w ≡ entry source k → Inserted w (entry target k) successors₀ successors → Added source event target k Passed excited successors
+    unfolding verdictRefusal transitionRefusal firstTransitions
+    enters f p i q j = (
+      rw (ne-eqb (entry source k) (entry target k) moves, ← exists-before, f),
+      λ _. record {
+        excitations = excites-more (transitionAt source event target k) (sets .excitations) (rw p at i);
+        follows = follows-more (transitionAt source event target k) (sets .follows) (rw q at j);
+      },
+    )

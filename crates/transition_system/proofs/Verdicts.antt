@@ -1,0 +1,87 @@
+-- 4 to 7 together: what the parts of the check answer, and what the whole then answers.
+use Prim.Native.Nat.{ℕ, _<_, _≤_}
+use mathlib.Core.Path.{_≡_, refl, sym, ap, _∙_}
+use mathlib.Core.List.{List, []}
+use mathlib.Core.Option.{none, Option·some-ne-none, orElse}
+use lib.ListN.{replicate, length-replicate}
+use Rattle.model.specs.declared.Refusal as D
+use Rattle.model.specs.declared.Refusal.the-variants.{UnusedEvent, Unreachable}
+use Rattle.model.specs.Cases.{tabled}
+use Rattle.model.specs.Lists.{exists}
+use Rattle.model.specs.TransitionSystem.{Transition, TransitionSystem, transitionsRefusal, unusedEvent, unreachableState, systemRefusal}
+use Rattle.model.proofs.Bounds.{Within}
+use Rattle.reader.specs.declared.Tables.{Tables}
+use Rattle.reader.specs.declared.Verdict.{Verdict}
+use Rattle.reader.specs.declared.Verdict.the-variants.{Refused, Passed}
+use Rattle.reader.specs.Bounded.{Bounded}
+use Rattle.reader.specs.Tables.{verdictRefusal}
+use Rattle.reader.specs.Told.{firstTransitions, systemOf, below}
+use Rattle.state_set.specs.Rows.{AllEmpty}
+use Rattle.state_set.proofs.Rows.{empty-row}
+use Rattle.transition_system.specs.Sets.{Excitations, Successors, SetsOf}
+use Rattle.transition_system.proofs.Unreached.{below-in, below-out}
+use Rattle.transition_system.proofs.WithinTables.{within-tables}
+
+-- a fresh row has the successors of no transition
+pub no-successors : Successors [] (replicate 1024 0)
+unfolding exists AllEmpty
+no-successors = record { size = length-replicate {A = ℕ} 1024 0; members = λ s u l. empty-row 1024 s u }
+
+-- the transitions that the tables hold
+abbrev held : Tables → List Transition
+held p = firstTransitions (p .source) (p .event) (p .target) (p .transitions)
+
+-- what the whole check answers
+abbrev Checks : Tables → Verdict → List ℕ → Type 0
+Checks p v excited = (verdictRefusal v ≡ systemRefusal (systemOf p)) × (verdictRefusal v ≡ none → Excitations (systemOf p .transitions) excited)
+
+-- what the searches for 6 and 7 answer, of n events, and of n states from an initial one
+abbrev Unused : List ℕ → ℕ → ℕ → Type 0
+Unused excited n x =
+    (ts : TransitionSystem) → Within ts → ts .states ≤ 256 → ts .events ≡ n → Excitations (ts .transitions) excited → below n x ≡ unusedEvent ts
+
+abbrev Unreached : List ℕ → ℕ → ℕ → ℕ → Type 0
+Unreached successors i n x =
+    (ts : TransitionSystem) → Within ts → ts .states ≡ n → ts .initial ≡ i → Successors (ts .transitions) successors → below n x ≡ unreachableState ts
+
+-- 4 and 5 answer v, and leave the sets
+module _
+    {p : Tables} (b : Bounded p) {v : Verdict} {excited successors : List ℕ}
+    (r : verdictRefusal v ≡ transitionsRefusal [] (held p))
+    (s : verdictRefusal v ≡ none → SetsOf (held p) excited successors) where
+  pub fork-refuses : {why : D.Refusal} → v ≡ Refused why → Checks p (Refused why) excited
+  unfolding verdictRefusal systemRefusal systemOf orElse
+  fork-refuses e = (rw (← r, e), λ n. absurd (Option·some-ne-none _ n))
+
+  -- they pass
+  module _ (e : v ≡ Passed) where
+    passes : transitionsRefusal [] (held p) ≡ none
+    unfolding verdictRefusal
+    passes = sym r ∙ ap verdictRefusal e
+
+    sets : SetsOf (held p) excited successors
+    unfolding verdictRefusal
+    sets = s (ap verdictRefusal e)
+
+    unused-is : (x : ℕ) → Unused excited (p .events) x → below (p .events) x ≡ unusedEvent (systemOf p)
+    unfolding systemOf
+    unused-is x u = u (systemOf p) (within-tables p b) (b .states) refl (sets .excitations)
+
+    unreached-is : (i y : ℕ) → i ≡ p .initial → Unreached successors i (p .states) y → below (p .states) y ≡ unreachableState (systemOf p)
+    unfolding systemOf
+    unreached-is i y q w = w (systemOf p) (within-tables p b) refl (sym q) (sets .follows)
+
+    pub event-refuses : {x : ℕ} → Unused excited (p .events) x → x < p .events → Checks p (Refused (UnusedEvent x)) excited
+    unfolding verdictRefusal tabled systemRefusal systemOf orElse
+    event-refuses {x} u l = (rw (passes, ← unused-is x u, below-in _ _ l), λ n. absurd (Option·some-ne-none _ n))
+
+    -- 6 passes
+    module _ {x i : ℕ} (u : Unused excited (p .events) x) (m : p .events ≤ x) (q : i ≡ p .initial) where
+      pub state-refuses : {y : ℕ} → Unreached successors i (p .states) y → y < p .states → Checks p (Refused (Unreachable y)) excited
+      unfolding verdictRefusal tabled systemRefusal systemOf orElse
+      state-refuses {y} w l =
+          (rw (passes, ← unused-is x u, below-out _ _ m, ← unreached-is i y q w, below-in _ _ l), λ n. absurd (Option·some-ne-none _ n))
+
+      pub all-pass : {y : ℕ} → Unreached successors i (p .states) y → p .states ≤ y → Checks p Passed excited
+      unfolding verdictRefusal systemRefusal systemOf orElse
+      all-pass {y} w l = (rw (passes, ← unused-is x u, below-out _ _ m, ← unreached-is i y q w, below-out _ _ l), λ _. sets .excitations)

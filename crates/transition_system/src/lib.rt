@@ -1,0 +1,182 @@
+// Refusals 4 to 7: the transition system by itself.
+ghost use mathlib.Core.Path.{_≡_};
+ghost use mathlib.Core.List.{List, []};
+ghost use mathlib.Core.Option.{none};
+ghost use Prim.Native.Nat.{ℕ, suc, _<_, _≤_};
+ghost use lib.ListN.{length};
+ghost use Rattle.model.specs.Lists.{index};
+ghost use Rattle.model.specs.TransitionSystem.{TransitionSystem, leads, transitionRefusal, transitionsRefusal, unusedEvent, unreachableState, systemRefusal};
+ghost use Rattle.model.proofs.Bounds.{Within};
+ghost use Rattle.reader.specs.Tables.{verdictRefusal};
+ghost use Rattle.reader.specs.Told.{transitionAt, firstTransitions, systemOf, below};
+ghost use Rattle.reader.specs.Bounded.{Bounded};
+ghost use Rattle.transition_system.specs.Sets.{Excitations, Successors, SetsOf, InRows};
+ghost use Rattle.transition_system.specs.Reaches.{Reaches};
+use model::Refusal;
+use reader::Tables;
+use reader::Verdict;
+use state_set::Found;
+use state_set::StateSet;
+use state_set::contains;
+use state_set::insert;
+use state_set::join;
+use state_set::load;
+use state_set::lowest;
+use state_set::single;
+use state_set::without;
+
+fn wide(x: u8) -> usize
+    ensures { λ r. ⌜ (r ≡ x) × (r < 256) ⌝ }
+{
+    x as usize
+}
+
+// The first of n transitions that leads from state s by event e; n if there is none.
+fn first_leading<'a>(source: &'a [u8], event: &'a [u8], n: usize, s: u8, e: u8) -> usize
+    requires { ⌜ (n ≤ length (now source)) × (n ≤ length (now event)) ⌝ }
+    ensures { λ r. ⌜ ((targets : List ℕ) → r ≡ index (leads s e) (firstTransitions (now (source .entry)) (now (event .entry)) targets n)) × (r ≤ n) ⌝ }
+{
+    let mut k = 0;
+    while k < n {
+        if source[k] == s {
+            if event[k] == e {
+                return k;
+            }
+        }
+        k += 1;
+    }
+    k
+}
+
+// Transition k, once those before it are in the sets: refused by 4 or 5, or put into them.
+fn add_transition<'a>(
+    source: &'a [u8],
+    event: &'a [u8],
+    target: &'a [u8],
+    k: usize,
+    excited: &mut [u64],
+    successors: &mut [u64],
+) -> Verdict
+    requires { ⌜ InRows (now source) (now event) (now target) k ⌝ }
+    requires { ⌜ SetsOf (firstTransitions (now source) (now event) (now target) k) (now excited) (now successors) ⌝ }
+    ensures { λ r. ⌜ verdictRefusal r ≡ transitionRefusal (firstTransitions (now (source .entry)) (now (event .entry)) (now (target .entry)) k) (transitionAt (now (source .entry)) (now (event .entry)) (now (target .entry)) k) ⌝ }
+    ensures { λ r. ⌜ (verdictRefusal r ≡ none → SetsOf (firstTransitions (now (source .entry)) (now (event .entry)) (now (target .entry)) (suc k)) (now (excited .exit)) (now (successors .exit))) ⌝ }
+{
+    let s = source[k];
+    let t = target[k];
+    let e = event[k];
+    let line = k + 3;
+    if s == t {
+        return Verdict::Refused(Refusal::SelfLoop { line });
+    }
+    if contains(load(excited, wide(e)), s) {
+        let earlier = first_leading(source, event, k, s, e) + 3;
+        return Verdict::Refused(Refusal::Nondeterministic { line, earlier });
+    }
+    insert(excited, wide(e), s);
+    insert(successors, wide(s), t);
+    Verdict::Passed
+}
+
+// 4 and 5 over the transitions in order. The excitation set of each event and the successors of each state are found on the way.
+fn add_transitions<'a>(
+    source: &'a [u8],
+    event: &'a [u8],
+    target: &'a [u8],
+    n: usize,
+    excited: &mut [u64],
+    successors: &mut [u64],
+) -> Verdict
+    requires { ⌜ ((k : ℕ) → k < n → InRows (now source) (now event) (now target) k) ⌝ }
+    requires { ⌜ SetsOf [] (now excited) (now successors) ⌝ }
+    ensures { λ r. ⌜ verdictRefusal r ≡ transitionsRefusal [] (firstTransitions (now (source .entry)) (now (event .entry)) (now (target .entry)) n) ⌝ }
+    ensures { λ r. ⌜ (verdictRefusal r ≡ none → SetsOf (firstTransitions (now (source .entry)) (now (event .entry)) (now (target .entry)) n) (now (excited .exit)) (now (successors .exit))) ⌝ }
+{
+    let mut k = 0;
+    while k < n {
+        let verdict = add_transition(source, event, target, k, excited, successors);
+        if let Verdict::Refused(why) = verdict {
+            return Verdict::Refused(why);
+        }
+        k += 1;
+    }
+    Verdict::Passed
+}
+
+// 6: the lowest event with no transition, which is one that no state excites; the count of events if there is none.
+fn unused_event(excited: &[u64], events: usize) -> usize
+    requires { ⌜ (length (now excited) ≡ 256) × (events ≤ 64) ⌝ }
+    ensures { λ r. ⌜ ((ts : TransitionSystem) → Within ts → ts .states ≤ 256 → ts .events ≡ events → Excitations (ts .transitions) (now (excited .entry)) → below events r ≡ unusedEvent ts) ⌝ }
+{
+    let mut e = 0;
+    while e < events {
+        if let Found::Nothing = lowest(load(excited, e)) {
+            return e;
+        }
+        e += 1;
+    }
+    e
+}
+
+// The states that are reached, from a worklist of those whose successors are not yet in.
+fn reached(successors: &[u64], initial: u8) -> StateSet
+    requires { ⌜ length (now successors) ≡ 1024 ⌝ }
+    ensures { λ r. ⌜ ((ts : TransitionSystem) → ts .initial ≡ initial → Successors (ts .transitions) (now (successors .entry)) → Reaches ts r) ⌝ }
+{
+    let mut found = single(initial);
+    let mut waiting = single(initial);
+    loop {
+        let Found::State(s) = lowest(waiting) else {
+            return found;
+        };
+        let fresh = without(load(successors, wide(s)), found);
+        waiting = join(without(waiting, single(s)), fresh);
+        found = join(found, fresh);
+    }
+}
+
+// 7: the lowest of n states that is not reached; n if there is none.
+fn unreached_state(successors: &[u64], initial: u8, n: usize) -> usize
+    requires { ⌜ (length (now successors) ≡ 1024) × (n ≤ 256) ⌝ }
+    ensures { λ r. ⌜ ((ts : TransitionSystem) → Within ts → ts .states ≡ n → ts .initial ≡ initial → Successors (ts .transitions) (now (successors .entry)) → below n r ≡ unreachableState ts) ⌝ }
+{
+    match lowest(without(StateSet::FULL, reached(successors, initial))) {
+        Found::Nothing => n,
+        Found::State(s) => {
+            let k = wide(s);
+            if k < n { k } else { n }
+        }
+    }
+}
+
+fn narrow(x: usize) -> u8
+    requires { ⌜ x < 256 ⌝ }
+    ensures { λ r. ⌜ r ≡ x ⌝ }
+{
+    x as u8
+}
+
+// 4 to 7 in the paper's order. Passed, `excited` has the excitation set of each event.
+pub fn check_transition_system(p: Tables, excited: &mut [u64]) -> Verdict
+    requires { ⌜ Bounded p × Excitations [] (now excited) ⌝ }
+    ensures { λ r. ⌜ verdictRefusal r ≡ systemRefusal (systemOf p) ⌝ }
+    ensures { λ r. ⌜ (verdictRefusal r ≡ none → Excitations (systemOf p .transitions) (now (excited .exit))) ⌝ }
+{
+    let mut successors = [0u64; 1024];
+    let n = p.transitions;
+    let forks = add_transitions(&p.source, &p.event, &p.target, n, excited, &mut successors);
+    if let Verdict::Refused(why) = forks {
+        return Verdict::Refused(why);
+    }
+    let events = p.events;
+    let event = unused_event(excited, events);
+    if event < events {
+        return Verdict::Refused(Refusal::UnusedEvent { event });
+    }
+    let states = p.states;
+    let state = unreached_state(&successors, narrow(p.initial), states);
+    if state < states {
+        return Verdict::Refused(Refusal::Unreachable { state });
+    }
+    Verdict::Passed
+}
