@@ -1,0 +1,44 @@
+-- An event on one of the first machines.
+use Prim.Native.Nat.{ℕ, zero, suc, _+_, _*_, _<_, _≤_}
+use native.Mathlib.Numerals.{add-one}
+use native.Mathlib.Omega.{arith}
+use mathlib.Core.Path.{_≡_, refl, sym, subst}
+use mathlib.Core.Logic.{_⊎_, inl, inr}
+use mathlib.Core.Bool.{true, false, or-true}
+use mathlib.Core.List.{List}
+use borrow.Author.Tests.{lt-ltb, le-ltb}
+use Rattle.model.proofs.Laws.{below-suc}
+use Rattle.reader.specs.Told.{entry}
+use Rattle.closure.specs.Covers.{onMachine, onSome}
+
+-- the event is on none of the first k machines
+pub record OnNone (pre : List ℕ) (e machines k : ℕ) : Type 0 where
+  pub most : k ≤ machines
+  pub none : onSome pre e k ≡ false
+
+module _ {pre : List ℕ} {e machines : ℕ} where
+  pub on-start : OnNone pre e machines 0
+  unfolding onSome
+  on-start = record { most = omega arith; none = refl }
+
+  pub on-more : {k q : ℕ} → OnNone pre e machines k → k < machines → q ≡ entry pre (k * 64 + e) → 64 ≤ q → OnNone pre e machines (k + 1)
+  unfolding onSome onMachine
+  on-more {k} {q} o l v h =
+      let b : 64 ≤ entry pre (k * 64 + e) = omega arith in
+      record { most = omega arith; none = rw (add-one k, o .none) (le-ltb (entry pre (k * 64 + e)) 64 b) }
+
+  pub on-end : {k : ℕ} → OnNone pre e machines k → machines ≤ k → false ≡ onSome pre e machines
+  on-end {k} o l = let q : k ≡ machines = omega arith in sym (subst (λ (n : ℕ). onSome pre e n ≡ false) q (o .none))
+
+on-some : (pre : List ℕ) (e k n : ℕ) → k < n → onMachine pre e k ≡ true → onSome pre e n ≡ true
+unfolding onSome
+on-some pre e k zero l t = absurd (omega arith)
+on-some pre e k (suc n) l t = go (below-suc k n l) (λ b. on-some pre e k n b t)
+  where
+    go : (k < n) ⊎ (k ≡ n) → (k < n → onSome pre e n ≡ true) → onSome pre e (suc n) ≡ true
+    go (inl b) ih = rw (ih b)
+    go (inr b) ih = rw (sym b, t, or-true (onSome pre e k))
+
+pub on-found : (pre : List ℕ) (e machines : ℕ) {k q : ℕ} → k < machines → q ≡ entry pre (k * 64 + e) → q < 64 → true ≡ onSome pre e machines
+unfolding onMachine
+on-found pre e machines {k} {q} l v h = let b : entry pre (k * 64 + e) < 64 = omega arith in sym (on-some pre e k machines l (lt-ltb (entry pre (k * 64 + e)) 64 b))

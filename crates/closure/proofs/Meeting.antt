@@ -1,0 +1,60 @@
+-- The states common to the pre-places of an event, met machine by machine.
+use Prim.Native.Nat.{ℕ, _+_, _*_, _<_, _≤_}
+use native.Mathlib.Numerals.{add-one}
+use native.Mathlib.Omega.{arith}
+use mathlib.Core.Path.{_≡_, sym, _∙_, subst}
+use mathlib.Core.Bool.{not, _&&_, and-true}
+use mathlib.Core.List.{List}
+use mathlib.Core.Option.{Option}
+use borrow.Author.Tests.{lt-ltb, le-ltb}
+use Rattle.model.specs.Lists.{lowest}
+use Rattle.state_set.specs.declared.StateSet.{StateSet}
+use Rattle.state_set.specs.Member.{member}
+use Rattle.state_set.specs.Rows.{setAt, memberAt}
+use Rattle.state_set.proofs.Sets.{fullSet, full-member}
+use Rattle.reader.specs.Told.{entry}
+use Rattle.closure.specs.Covers.{onMachine, commonTo, openIn}
+use Rattle.closure.proofs.Searches.{lowest-same}
+
+-- the set has the states common to the pre-places on the first k machines
+pub record Meeting (sets pre : List ℕ) (e machines : ℕ) (common : StateSet) (k : ℕ) : Type 0 where
+  pub most : k ≤ machines
+  pub members : (i : ℕ) → member common i ≡ commonTo sets pre e k i
+
+module _ {sets pre : List ℕ} {e machines : ℕ} where
+  pub meet-start : Meeting sets pre e machines fullSet 0
+  unfolding commonTo
+  meet-start = record { most = omega arith; members = full-member }
+
+  pub meet-skip :
+      {a next : StateSet} {k q : ℕ} → Meeting sets pre e machines a k → k < machines → q ≡ entry pre (k * 64 + e) → 64 ≤ q → next ≡ a
+      → Meeting sets pre e machines next (k + 1)
+  unfolding commonTo onMachine
+  meet-skip {a} {next} {k} {q} m l v h u =
+      let b : 64 ≤ entry pre (k * 64 + e) = omega arith in
+      record {
+        most = omega arith;
+        members = λ i. rw (u, add-one k, le-ltb (entry pre (k * 64 + e)) 64 b) (m .members i ∙ sym (and-true (commonTo sets pre e k i)));
+      }
+
+  pub meet-more :
+      {a b c next : StateSet} {k q : ℕ} → Meeting sets pre e machines a k → k < machines → q ≡ entry pre (k * 64 + e) → q < 64
+      → b ≡ setAt sets (k * 64 + q) → ((i : ℕ) → member c i ≡ (member a i && member b i)) → next ≡ c → Meeting sets pre e machines next (k + 1)
+  unfolding commonTo onMachine memberAt
+  meet-more {a} {b} {c} {next} {k} {q} m l v h s w u =
+      let t : entry pre (k * 64 + e) < 64 = omega arith in
+      record {
+        most = omega arith;
+        members = λ i. rw (u, add-one k, lt-ltb (entry pre (k * 64 + e)) 64 t) (w i ∙ rw (m .members i, s, v));
+      }
+
+  pub meet-end : {a : StateSet} {k : ℕ} → Meeting sets pre e machines a k → machines ≤ k → (i : ℕ) → member a i ≡ commonTo sets pre e machines i
+  meet-end {a} {k} m l i = let q : k ≡ machines = omega arith in subst (λ (n : ℕ). member a i ≡ commonTo sets pre e n i) q (m .members i)
+
+-- what is left of them outside the excitation set
+pub left-open :
+    (sets pre excited : List ℕ) (machines e : ℕ) (common out left : StateSet) {o : Option ℕ}
+    → ((i : ℕ) → member common i ≡ commonTo sets pre e machines i) → out ≡ setAt excited e
+    → ((i : ℕ) → member left i ≡ (member common i && not (member out i))) → o ≡ lowest (member left) 256 → o ≡ openIn sets pre excited machines e
+unfolding openIn memberAt
+left-open sets pre excited machines e common out left m s w q = q ∙ lowest-same _ _ 256 (λ i _. w i ∙ rw (m i, s))

@@ -1,0 +1,41 @@
+-- The places of all machines as sets, and what the rows say of an event on all machines.
+use Prim.Native.Nat.{ℕ, zero, suc, _+_, _*_, _<_, _≤_}
+use mathlib.Core.Path.{_≡_}
+use mathlib.Core.Bool.{Bool, false, not, _&&_, _||_}
+use mathlib.Core.List.{List}
+use mathlib.Core.Option.{Option, none, Option·map, orElse}
+use lib.Dec.{eqb, ltb}
+use lib.ListN.{length}
+use Rattle.model.specs.Lists.{lowest}
+use Rattle.model.specs.Refusal.{Refusal, refuse}
+use Rattle.state_set.specs.Rows.{memberAt}
+use Rattle.reader.specs.Told.{entry}
+
+-- set k * 64 + q has the states, of n, that machine k has in place q, for the first machines; the other sets are empty
+pub record PlaceSets (place : List ℕ) (n machines : ℕ) (sets : List ℕ) : Type 0 where
+  pub size : length sets ≡ 4096
+  pub members : (k q i : ℕ) → k < machines → q < 64 → memberAt sets (k * 64 + q) i ≡ (ltb i n && eqb (entry place (k * 256 + i)) q)
+  pub others : (j i : ℕ) → machines * 64 ≤ j → memberAt sets j i ≡ false
+
+-- event e is on machine k
+unfoldable pub onMachine : List ℕ → ℕ → ℕ → Bool
+onMachine pre e k = ltb (entry pre (k * 64 + e)) 64
+
+-- event e is on one of the first machines
+unfoldable pub onSome : List ℕ → ℕ → ℕ → Bool
+onSome pre e zero = false
+onSome pre e (suc k) = onSome pre e k || onMachine pre e k
+
+-- state i is common to the pre-places of event e on the first machines
+unfoldable pub commonTo : List ℕ → List ℕ → ℕ → ℕ → ℕ → Bool
+commonTo sets pre e zero i = ltb i 256
+commonTo sets pre e (suc k) i = commonTo sets pre e k i && (not (onMachine pre e k) || memberAt sets (k * 64 + entry pre (k * 64 + e)) i)
+
+-- the lowest state common to the pre-places of event e and outside its excitation set
+unfoldable pub openIn : List ℕ → List ℕ → List ℕ → ℕ → ℕ → Option ℕ
+openIn sets pre excited machines e = lowest (λ i. commonTo sets pre e machines i && not (memberAt excited e i)) 256
+
+-- 12 by a search for the open state of each event: the lowest event that has one, and this state
+unfoldable pub openRefusal : (ℕ → Option ℕ) → ℕ → Option Refusal
+openRefusal lowestOpen zero = none
+openRefusal lowestOpen (suc n) = orElse (openRefusal lowestOpen n) (Option·map (λ s. refuse 12 n s) (lowestOpen n))

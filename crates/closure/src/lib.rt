@@ -1,0 +1,167 @@
+// Refusals 11 and 12: the machines together.
+ghost use mathlib.Core.Path.{_≡_};
+ghost use mathlib.Core.Bool.{not};
+ghost use mathlib.Core.List.{List};
+ghost use mathlib.Core.Option.{none};
+ghost use Prim.Native.Nat.{ℕ, suc, _<_, _≤_};
+ghost use lib.ListN.{length};
+ghost use Rattle.model.specs.Lists.{lowest};
+ghost use Rattle.model.specs.Machine.{Decomposition, machinesRefusal, coverRefusal};
+ghost use Rattle.state_set.specs.Member.{member, stateFound};
+ghost use Rattle.reader.specs.Tables.{verdictRefusal};
+ghost use Rattle.reader.specs.Told.{systemOf, below, MachinesTold};
+ghost use Rattle.reader.specs.Bounded.{Bounded};
+ghost use Rattle.transition_system.specs.Sets.{Excitations};
+ghost use Rattle.regions.specs.Moves.{MovesTold};
+ghost use Rattle.closure.specs.Covers.{PlaceSets, onSome, commonTo, openIn, openRefusal};
+use model::MAX_EVENTS;
+use model::MAX_PLACES;
+use model::MAX_STATES;
+use model::Refusal;
+use reader::Tables;
+use reader::Verdict;
+use state_set::Found;
+use state_set::StateSet;
+use state_set::insert;
+use state_set::load;
+use state_set::lowest;
+use state_set::meet;
+use state_set::without;
+
+fn wide(x: u8) -> usize
+    ensures { λ r. ⌜ (r ≡ x) × (r < 256) ⌝ }
+{
+    x as usize
+}
+
+fn narrow(x: usize) -> u8
+    requires { ⌜ x < 256 ⌝ }
+    ensures { λ r. ⌜ r ≡ x ⌝ }
+{
+    x as u8
+}
+
+// The places of machine m as sets, in one pass over its states.
+fn add_places(place: &[u8], n: usize, m: usize, sets: &mut [u64])
+    requires { ⌜ (n ≤ 256) × (m < 16) × (length (now place) ≡ 4096) × PlaceSets (now place) n m (now sets) ⌝ }
+    ensures { λ _. ⌜ PlaceSets (now (place .entry)) n (suc m) (now (sets .exit)) ⌝ }
+{
+    let from = m * MAX_STATES;
+    let first = m * MAX_PLACES;
+    let mut x = 0;
+    while x < n {
+        let q = wide(place[from + x]);
+        if q < MAX_PLACES {
+            insert(sets, first + q, narrow(x));
+        }
+        x += 1;
+    }
+}
+
+fn add_machines(place: &[u8], n: usize, machines: usize, sets: &mut [u64])
+    requires { ⌜ (n ≤ 256) × (machines ≤ 16) × (length (now place) ≡ 4096) × PlaceSets (now place) n 0 (now sets) ⌝ }
+    ensures { λ _. ⌜ PlaceSets (now (place .entry)) n machines (now (sets .exit)) ⌝ }
+{
+    let mut m = 0;
+    while m < machines {
+        add_places(place, n, m, sets);
+        m += 1;
+    }
+}
+
+// Event e is on one of the machines.
+fn is_effective(pre: &[u8], machines: usize, e: usize) -> bool
+    requires { ⌜ (machines ≤ 16) × (e < 64) × (length (now pre) ≡ 1024) ⌝ }
+    ensures { λ r. ⌜ r ≡ onSome (now (pre .entry)) e machines ⌝ }
+{
+    let mut m = 0;
+    while m < machines {
+        if wide(pre[m * MAX_EVENTS + e]) < MAX_PLACES {
+            return true;
+        }
+        m += 1;
+    }
+    false
+}
+
+// 11: the lowest event on no machine; the count of events if there is none.
+fn ineffective_event(pre: &[u8], machines: usize, events: usize) -> usize
+    requires { ⌜ (machines ≤ 16) × (events ≤ 64) × (length (now pre) ≡ 1024) ⌝ }
+    ensures { λ r. ⌜ below events r ≡ lowest (λ e. not (onSome (now (pre .entry)) e machines)) events ⌝ }
+{
+    let mut e = 0;
+    while e < events {
+        if !is_effective(pre, machines, e) {
+            return e;
+        }
+        e += 1;
+    }
+    e
+}
+
+// The states common to all pre-places of event e, over all machines.
+fn common_states(sets: &[u64], pre: &[u8], machines: usize, e: usize) -> StateSet
+    requires { ⌜ (machines ≤ 16) × (e < 64) × (length (now sets) ≡ 4096) × (length (now pre) ≡ 1024) ⌝ }
+    ensures { λ r. ⌜ ((i : ℕ) → member r i ≡ commonTo (now (sets .entry)) (now (pre .entry)) e machines i) ⌝ }
+{
+    let mut common = StateSet::FULL;
+    let mut m = 0;
+    while m < machines {
+        let q = wide(pre[m * MAX_EVENTS + e]);
+        if q < MAX_PLACES {
+            common = meet(common, load(sets, m * MAX_PLACES + q));
+        }
+        m += 1;
+    }
+    common
+}
+
+// 12 for event e: the lowest state common to its pre-places and outside its excitation set.
+fn open_state(sets: &[u64], pre: &[u8], excited: &[u64], machines: usize, e: usize) -> Found
+    requires { ⌜ (machines ≤ 16) × (e < 64) × (length (now sets) ≡ 4096) × (length (now pre) ≡ 1024) × (length (now excited) ≡ 256) ⌝ }
+    ensures { λ r. ⌜ stateFound r ≡ openIn (now (sets .entry)) (now (pre .entry)) (now (excited .entry)) machines e ⌝ }
+{
+    let common = common_states(sets, pre, machines, e);
+    let within = load(excited, e);
+    lowest(without(common, within))
+}
+
+// 12: the lowest event whose closure fails, and there the lowest state.
+fn check_closed(
+    sets: &[u64],
+    pre: &[u8],
+    excited: &[u64],
+    machines: usize,
+    events: usize,
+) -> Verdict
+    requires { ⌜ (machines ≤ 16) × (events ≤ 64) × (length (now sets) ≡ 4096) × (length (now pre) ≡ 1024) × (length (now excited) ≡ 256) ⌝ }
+    ensures { λ r. ⌜ verdictRefusal r ≡ openRefusal (openIn (now (sets .entry)) (now (pre .entry)) (now (excited .entry)) machines) events ⌝ }
+{
+    let mut e = 0;
+    while e < events {
+        if let Found::State(s) = open_state(sets, pre, excited, machines, e) {
+            return Verdict::Refused(Refusal::NotExcitationClosed {
+                event: e,
+                state: wide(s),
+            });
+        }
+        e += 1;
+    }
+    Verdict::Passed
+}
+
+// 11, then 12.
+pub fn check_cover(p: Tables, excited: &[u64], pre: &[u8]) -> Verdict
+    requires { ⌜ Bounded p × (length (now excited) ≡ 256) × (length (now pre) ≡ 1024) ⌝ }
+    ensures { λ r. ⌜ ((ms : Decomposition) (post : List ℕ) → MachinesTold (systemOf p) p ms → machinesRefusal (systemOf p) 0 ms ≡ none → MovesTold (systemOf p) ms (now (pre .entry)) post → Excitations (systemOf p .transitions) (now (excited .entry)) → verdictRefusal r ≡ coverRefusal (systemOf p) ms) ⌝ }
+{
+    let machines = p.machines;
+    let events = p.events;
+    let event = ineffective_event(pre, machines, events);
+    if event < events {
+        return Verdict::Refused(Refusal::IneffectiveEvent { event });
+    }
+    let mut sets = [0u64; 4096];
+    add_machines(&p.place, p.states, machines, &mut sets);
+    check_closed(&sets, pre, excited, machines, events)
+}
