@@ -1,0 +1,103 @@
+-- The sheet that the rows give is the model's, if the rows tell a value that passes 8 to 10 and its moves; and what a lent buffer holds once it is written.
+use Prim.Native.Nat.{ℕ, zero, suc, _+_, _*_, _<_, _≤_}
+use native.Mathlib.Omega.{arith}
+use mathlib.Core.Path.{_≡_, refl, ap, _∙_}
+use mathlib.Core.Bool.{Bool, true, false, cond}
+use mathlib.Core.List.{List, [], _++_, flatten}
+use mathlib.Core.Option.{none, some, Option·none-ne-some, Option·some-injective}
+use lib.Dec.{eqb}
+use lib.ListN.{length, take, drop}
+use lib.Seq.{sets, sets-eq, take-suc, take-length}
+use Rattle.model.specs.Lists.{At, elem}
+use Rattle.model.specs.TransitionSystem.{TransitionSystem}
+use Rattle.model.specs.Machine.{Machine, placeOf, move, machinesRefusal}
+use Rattle.model.specs.Text.{Input, system, Limits}
+use Rattle.model.specs.Sheet.{movesBelow, sheetLine, sheetLines, sheet}
+use Rattle.model.proofs.Laws.{T-true}
+use Rattle.model.proofs.Positions.{below-at, at-mem, at-value}
+use Rattle.model.proofs.Passed.{machines-good}
+use Rattle.model.proofs.Sheets.{at-lines, lines-length}
+use Rattle.reader.specs.declared.Tables.{Tables}
+use Rattle.reader.specs.Told.{entry, systemOf, nameOf, orNone, placeAt, Told}
+use Rattle.regions.specs.Moves.{moveAt, MovesTold}
+use Rattle.sheet.specs.Written.{namesIn, rowNames, rowMoves, rowLine, rowLines, rowSheet}
+
+-- an entry that is not the mark of none
+unmarked : (mark x y : ℕ) → orNone mark x ≡ some y → x ≡ y
+unfolding orNone
+unmarked mark x y h = go (eqb x mark) refl h
+  where
+    go : (b : Bool) → eqb x mark ≡ b → cond b none (some x) ≡ some y → x ≡ y
+    go true q e = absurd (Option·none-ne-some y e)
+    go false q e = Option·some-injective x y e
+
+-- the moves of one machine
+moves-told : (ts : TransitionSystem) (m : Machine) (pre post : List ℕ) (k n : ℕ) → ((e : ℕ) → e < n → moveAt pre post k e ≡ move ts m e)
+    → rowMoves pre post k n ≡ movesBelow ts m n
+unfolding rowMoves movesBelow
+moves-told ts m pre post k zero h = refl
+moves-told ts m pre post k (suc n) h = rw (h n (omega arith), moves-told ts m pre post k n (λ e l. h e (omega arith)))
+
+module _ (s : List ℕ) (v : Input) (p : Tables) (pre post : List ℕ) (told : Told s v p) (moves : MovesTold (system v) (v .machines) pre post)
+    (passes : machinesRefusal (system v) 0 (v .machines) ≡ none) (l : Limits v) where
+  events-told : p .events ≡ length (v .names)
+  unfolding systemOf
+  events-told = ap (λ (t : TransitionSystem). t .events) (told .tells-system)
+
+  initial-told : p .initial ≡ v .initial
+  unfolding systemOf
+  initial-told = ap (λ (t : TransitionSystem). t .initial) (told .tells-system)
+
+  names-told : (n : ℕ) → n ≤ length (v .names) → namesIn s (p .«name_at») (p .«name_len») n ≡ take n (v .names)
+  unfolding namesIn nameOf
+  names-told zero h = refl
+  names-told (suc n) h = rw (take-suc (v .names) n [] h, names-told n (omega arith), told .name n h)
+
+  -- the state is listed, since the machine passes 9: its entry is no mark
+  start-told : (k : ℕ) (m : Machine) → At (v .machines) k m → entry (p .place) (k * 256 + p .initial) ≡ placeOf m (v .initial)
+  unfolding placeAt
+  start-told k m a =
+      let listed = machines-good (system v) 0 (v .machines) passes m (at-mem (v .machines) k m a) .base .placed (v .initial) (omega (arith, l .initial, l .states-least)) in
+      let here = told .tells-machines .machine k m a .place (v .initial) (omega (arith, l .initial)) in
+      rw initial-told (unmarked 255 _ _ (rw (T-true (elem (v .initial) (flatten (m .places))) listed) at here))
+
+  line-told : (k : ℕ) (m : Machine) → At (v .machines) k m → rowLine p pre post k ≡ sheetLine (system v) k m
+  unfolding rowLine sheetLine
+  line-told k m a =
+      rw (
+        told .tells-machines .machine k m a .places,
+        start-told k m a,
+        events-told,
+        moves-told (system v) m pre post k (length (v .names)) (λ e h. moves .move k e m a h),
+      )
+
+  -- the rows count their lines from the front, as `take` does; the model numbers them on the way down
+  lines-told : (n : ℕ) → n ≤ length (v .machines) → rowLines p pre post n ≡ take n (sheetLines (system v) 0 (v .machines))
+  unfolding rowLines
+  lines-told zero h = refl
+  lines-told (suc n) h =
+      let ms = v .machines in
+      let ls = sheetLines (system v) 0 ms in
+      let low : n < length ls = omega (arith, lines-length (system v) ms 0) in
+      let (m, a) = below-at ms n h in
+      let (x, b) = below-at ls n low in
+      let z : 0 + n ≡ n = omega arith in
+      rw (take-suc ls n x low, at-value ls n x x b, lines-told n (omega arith), line-told n m a, ← at-lines (system v) ms 0 n m x a b, z)
+
+  all-names : rowNames s p ≡ v .names
+  all-names = rw (events-told, names-told (length (v .names)) (omega arith), take-length (v .names))
+
+  all-lines : rowLines p pre post (p .machines) ≡ sheetLines (system v) 0 (v .machines)
+  all-lines =
+      let ls = sheetLines (system v) 0 (v .machines) in
+      ap (rowLines p pre post) (told .tells-machines .counted)
+      ∙ lines-told (length (v .machines)) (omega arith)
+      ∙ rw (← lines-length (system v) (v .machines) 0) (take-length ls)
+
+  pub told-sheet : rowSheet s p pre post ≡ sheet v
+  unfolding rowSheet sheet
+  told-sheet = rw (all-lines, all-names, told .tells-machines .counted)
+
+-- a lent buffer that is long enough begins with what is written, and goes on as it was
+pub lent : (out xs : List ℕ) → length xs ≤ length out → sets out 0 xs ≡ xs ++ drop (length xs) out
+lent out xs h = let z : 0 + length xs ≡ length xs = omega arith in sets-eq xs out 0 (omega arith) ∙ rw z

@@ -1,0 +1,2 @@
+-- `Written`: the sheet that rows of numbers give.
+pub mod Written
