@@ -2,44 +2,44 @@
 use crate::reference::{self, TEXT_BOUND};
 use std::collections::BTreeSet;
 
-const Y: &str = "(states 4)\n(events ready brake home)\n(step 0 ready 1)\n(step 0 brake 2)\n(step 1 brake 3)\n\
-                 (step 2 ready 3)\n(step 3 home 0)\n(machine (0 2) (1 3))\n(machine (0 1) (2 3))\n";
-const Q: &str = "(states 3)\n(events ready brake)\n(step 0 ready 1)\n(step 0 brake 2)\n\
-                 (machine (0 2) (1))\n(machine (0 1) (2))\n";
+pub const Y: &str = "(states 4)\n(events ready brake home)\n(step 0 ready 1)\n(step 0 brake 2)\n(step 1 brake 3)\n\
+                     (step 2 ready 3)\n(step 3 home 0)\n(machine (0 2) (1 3))\n(machine (0 1) (2 3))\n";
+pub const Q: &str = "(states 3)\n(events ready brake)\n(step 0 ready 1)\n(step 0 brake 2)\n\
+                     (machine (0 2) (1))\n(machine (0 1) (2))\n";
 /// Every kind of line and of item in few bytes, for the texts that are many.
 const TINY: &str = "(states 3)\n(events a b-1)\n(step 0 a 1)\n(machine (0 2) (1))\n";
 
 /// Xorshift: no more than this is asked of it.
-struct Dice(u64);
+pub struct Dice(pub u64);
 
 impl Dice {
-    fn below(&mut self, n: usize) -> usize {
+    pub fn below(&mut self, n: usize) -> usize {
         self.0 ^= self.0 << 13;
         self.0 ^= self.0 >> 7;
         self.0 ^= self.0 << 17;
         (self.0 >> 32) as usize % n
     }
 
-    fn once_in(&mut self, n: usize) -> bool {
+    pub fn once_in(&mut self, n: usize) -> bool {
         self.below(n) == 0
     }
 
-    fn one<T: Clone>(&mut self, of: &[T]) -> T {
+    pub fn one<T: Clone>(&mut self, of: &[T]) -> T {
         of[self.below(of.len())].clone()
     }
 }
 
 /// A system and its machines; nothing of it need be within the bounds.
 #[derive(Default)]
-struct Draft {
-    states: usize,
-    events: Vec<String>,
-    steps: Vec<(usize, String, usize)>,
-    machines: Vec<Vec<Vec<usize>>>,
+pub struct Draft {
+    pub states: usize,
+    pub events: Vec<String>,
+    pub steps: Vec<(usize, String, usize)>,
+    pub machines: Vec<Vec<Vec<usize>>>,
 }
 
 impl Draft {
-    fn text(&self) -> String {
+    pub fn text(&self) -> String {
         let names: String = self.events.iter().map(|e| format!(" {e}")).collect();
         let mut text = format!("(states {})\n(events{names})\n", self.states);
         for (from, event, to) in &self.steps {
@@ -55,7 +55,7 @@ impl Draft {
 }
 
 /// The text with its first `from` replaced; a `from` that is not there is a fault of these vectors.
-fn with(text: &str, from: &str, to: &str) -> String {
+pub fn with(text: &str, from: &str, to: &str) -> String {
     assert!(text.contains(from), "no {from:?} in {text:?}");
     text.replacen(from, to, 1)
 }
@@ -92,7 +92,7 @@ fn figures() -> Vec<String> {
 }
 
 /// Names that are easily taken for one another: by length, by either half, by their last byte, by a sum of bytes.
-fn alike() -> Vec<String> {
+pub fn alike() -> Vec<String> {
     let others = "b z ab ba ay c9 a- a0 a9 az aaaaaaab aaaaaaaab aaaaaaaba aaaaaaaaaaaaaaab aaaaaaaabaaaaaaa \
                   aaaaaaabaaaaaaaa baaaaaaaaaaaaaaa bbbbbbbbaaaaaaaa aaaaaaaabbbbbbbb a--------------0 \
                   a---------------";
@@ -216,7 +216,7 @@ fn many_steps() -> Vec<String> {
 }
 
 /// A text of this size with as many of everything as may be.
-fn full(dice: &mut Dice, size: usize) -> String {
+pub fn full(dice: &mut Dice, size: usize) -> String {
     let events: Vec<String> = (0..64).map(|k| format!("e{k}")).collect();
     let steps = (0..1024).map(|_| (dice.below(256), dice.one(&events), dice.below(256))).collect();
     let places = |m: usize| (0..64).map(|p| [0, 64, 128].map(|k| (p + k + m * 16) % 256).to_vec()).collect();
@@ -292,7 +292,7 @@ fn damaged_line(dice: &mut Dice, text: &[u8]) -> Vec<u8> {
     lines.concat()
 }
 
-fn damaged(dice: &mut Dice, text: &[u8]) -> Vec<u8> {
+pub fn damaged(dice: &mut Dice, text: &[u8]) -> Vec<u8> {
     let (at, to) = (dice.below(text.len()), dice.below(text.len()));
     let known = dice.one(b"() \n\t\r-0123456789abemnopstxyzAZ");
     let byte = if dice.once_in(4) { dice.below(256) as u8 } else { known };

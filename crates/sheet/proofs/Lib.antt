@@ -4,6 +4,8 @@
 pub mod Writing
 pub mod Figures
 pub mod Parts
+-- the numeral of any number, and the refusal line
+pub mod Refusals
 -- the moves on a machine, and the lines of the machines
 pub mod Moving
 pub mod Lining

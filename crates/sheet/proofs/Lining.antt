@@ -76,7 +76,8 @@ module _ {p : Tables} {pre post : List ℕ} where
       → (size ≡ length (digits (entry (p .sizes) n))) × (size ≤ 3)
       → (start ≡ length (digits (entry (p .place) (n * 256 + p .initial)))) × (start ≤ 3)
       → moves ≤ 2048
-      → ((s ats : List ℕ) → NamesInside s ats (p .«name_len») (p .events) → moves ≡ length (movesBytes (namesIn s ats (p .«name_len») (p .events)) pre post n (p .events)))
+      → ((s ats : List ℕ) → NamesInside s ats (p .«name_len») (p .events)
+      → moves ≡ length (movesBytes (namesIn s ats (p .«name_len») (p .events)) pre post n (p .events)))
       → Totalled p pre post (total + (30 + a + size + start + moves)) (n + 1)
   totalled-add {total} {n} {a} {size} {start} {moves} t l qa qb qc b f =
       record {

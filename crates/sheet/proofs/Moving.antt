@@ -77,14 +77,16 @@ module _ (pre post : List ℕ) (k n : ℕ) where
         rw (add-one n)
         (ap (λ (o : Option Move). flatMap (writtenMove names) (addMove n o (rowMoves pre post k n))) (move-some h)
         ∙ flatMap-append (writtenMove names) (rowMoves pre post k n) _
-        ∙ ap (λ (w : List ℕ). flatMap (writtenMove names) (rowMoves pre post k n) ++ w) (append-nil (moveBytes (getD names n []) (entry pre (k * 64 + n)) (entry post (k * 64 + n)))))
+        ∙ ap (λ (w : List ℕ). flatMap (writtenMove names) (rowMoves pre post k n) ++ w)
+        (append-nil (moveBytes (getD names n []) (entry pre (k * 64 + n)) (entry post (k * 64 + n)))))
 
 -- the moves of fewer events are no longer
 module _ (names : List Name) (pre post : List ℕ) (k : ℕ) where
   moves-within : (n m : ℕ) → n ≤ m → length (movesBytes names pre post k n) ≤ length (movesBytes names pre post k m)
   moves-within = within (movesBytes names pre post k) (λ n. go n (order (entry pre (k * 64 + n)) 64))
     where
-      go : (n : ℕ) → (entry pre (k * 64 + n) < 64) ⊎ (64 ≤ entry pre (k * 64 + n)) → length (movesBytes names pre post k n) ≤ length (movesBytes names pre post k (n + 1))
+      go : (n : ℕ) → (entry pre (k * 64 + n) < 64) ⊎ (64 ≤ entry pre (k * 64 + n))
+          → length (movesBytes names pre post k n) ≤ length (movesBytes names pre post k (n + 1))
       go n (inl h) = rw (moves-add pre post k n names h) (simp length-append (omega arith))
       go n (inr h) = rw (moves-skip pre post k n names h) (omega arith)
 

@@ -4,7 +4,9 @@ ghost use mathlib.Core.List.{List};
 ghost use Prim.Native.Nat.{ℕ, _+_, _*_, _<_, _≤_};
 ghost use lib.ListN.{length};
 ghost use lib.Seq.{sets};
-ghost use Rattle.model.specs.Bytes.{digits};
+ghost use Rattle.model.specs.Refusal.{refuse};
+ghost use Rattle.model.specs.Bytes.{digits, numeral};
+ghost use Rattle.model.specs.Services.{writtenRefusal};
 ghost use Rattle.reader.specs.Told.{entry};
 ghost use Rattle.reader.specs.Bounded.{Bounded, NamesInside};
 ghost use Rattle.regions.specs.Moves.{MoveRows};
@@ -215,4 +217,34 @@ pub fn write_sheet(text: &[u8], p: Tables, pre: &[u8], post: &[u8], out: &mut [u
         i = write_bytes(b")\n", out, moves);
         m += 1;
     }
+}
+
+// ---- the refusal line
+
+// Any number, in base ten.
+fn write_numeral(n: usize, out: &mut [u8], at: usize) -> usize
+    requires { ⌜ at + length (numeral n) ≤ length (now out) ⌝ }
+    ensures { λ r. ⌜ Writes (numeral n) at (now (out .entry)) r (now (out .exit)) ⌝ }
+{
+    if n < 10 {
+        out[at] = digit(n);
+        return at + 1;
+    }
+    let i = write_numeral(n / 10, out, at);
+    out[i] = digit(n % 10);
+    i + 1
+}
+
+// A refusal's number and details, at the beginning of the buffer.
+pub fn write_refusal(number: usize, detail: usize, second: usize, out: &mut [u8]) -> usize
+    requires { ⌜ length (writtenRefusal (refuse number detail second)) ≤ length (now out) ⌝ }
+    ensures { λ r. ⌜ Writes (writtenRefusal (refuse number detail second)) 0 (now (out .entry)) r (now (out .exit)) ⌝ }
+{
+    let a = write_bytes(b"(refused ", out, 0);
+    let b = write_numeral(number, out, a);
+    let c = write_bytes(b" ", out, b);
+    let d = write_numeral(detail, out, c);
+    let e = write_bytes(b" ", out, d);
+    let f = write_numeral(second, out, e);
+    write_bytes(b")\n", out, f)
 }

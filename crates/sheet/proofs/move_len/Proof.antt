@@ -1,9 +1,6 @@
 -- `sheet::move_len` meets its contract.
 use native.Mathlib.Omega.{arith}
-use mathlib.Core.Path.{_≡_, _∙_}
 use borrow.Author.Needs.{needs}
-use lib.ListN.{length}
-use Rattle.model.specs.Bytes.{digits}
 use Rattle.sheet.proofs.Figures.{length-same}
 use Rattle.sheet.proofs.move_len.Statement.{statement}
 use Rattle.sheet.proofs.move_len.Tie as tie
@@ -31,8 +28,8 @@ add-result-3 c = search needs
 
 returns : tie.Need-returns
 returns c =
-    let a : c .before .before .figure-len .result ≡ length (digits (c .before .before .before .before .args .pre)) = c .before .before .figure-len .ensures .0 ∙ length-same (c .before .before .before .wide .ensures .0) in
-    let b : c .figure-len2 .result ≡ length (digits (c .before .before .before .before .args .post)) = c .figure-len2 .ensures .0 ∙ length-same (c .before .wide2 .ensures .0) in
+    let a = length-same (c .before .before .before .wide .ensures .0) in
+    let b = length-same (c .before .wide2 .ensures .0) in
     (omega arith, omega arith)
 
 pub move-len-spec : {M : Type 1} → statement M

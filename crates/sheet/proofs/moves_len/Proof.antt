@@ -41,7 +41,9 @@ shared-slice-read-move-len-2 : tie.Need-shared-slice-read-move-len-2 Inv-loop μ
 shared-slice-read-move-len-2 c = search needs
 
 move-len-requires : tie.Need-move-len-requires Inv-loop μ-loop
-move-len-requires c κs = c .before .before .before .before .before .before .before .before .before .before .pre .1 (c .before .before .before .before .before .before .loop .e) (omega arith)
+move-len-requires c κs =
+    c .before .before .before .before .before .before .before .before .before .before .pre .1 (c .before .before .before .before .before .before .loop .e)
+    (omega arith)
 
 add-total : tie.Need-add-total Inv-loop μ-loop
 add-total c = search needs

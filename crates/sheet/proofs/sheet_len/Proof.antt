@@ -48,7 +48,15 @@ figure-len-requires-3 : tie.Need-figure-len-requires-3 Inv-loop μ-loop
 figure-len-requires-3 c κs = search needs
 
 moves-len-requires : tie.Need-moves-len-requires Inv-loop μ-loop
-moves-len-requires c κs = ((omega arith, omega arith, search needs, c .before .before .before .before .before .before .before .before .before .before .before .before .before .pre .1), c .before .before .before .before .before .before .before .before .before .before .before .before .before .pre .0 .names)
+moves-len-requires c κs = (
+  (
+    omega arith,
+    omega arith,
+    search needs,
+    c .before .before .before .before .before .before .before .before .before .before .before .before .before .pre .1,
+  ),
+  c .before .before .before .before .before .before .before .before .before .before .before .before .before .pre .0 .names,
+)
 
 figure-len-requires-4 : tie.Need-figure-len-requires-4 Inv-loop μ-loop
 figure-len-requires-4 c κs = search needs
@@ -76,8 +84,12 @@ loop-less c = search needs
 
 loop-again : tie.Need-loop-again Inv-loop μ-loop
 loop-again c =
-    totalled-add (c .before .before .before .before .before .before .before .before .before .before .before .loop .inv) (c .before .before .before .before .before .before .before .before .before .before .loop-test .taken) (c .figure-len4 .ensures) (c .before .before .before .before .before .before .before .before .figure-len2 .ensures)
-    (c .before .before .before .before .before .figure-len3 .ensures .0 ∙ length-same (c .before .before .before .before .before .before .wide .ensures .0), c .before .before .before .before .before .figure-len3 .ensures .1) (c .before .moves-len .ensures .0)
+    totalled-add (c .before .before .before .before .before .before .before .before .before .before .before .loop .inv)
+    (c .before .before .before .before .before .before .before .before .before .before .loop-test .taken) (c .figure-len4 .ensures)
+    (c .before .before .before .before .before .before .before .before .figure-len2 .ensures) (
+      c .before .before .before .before .before .figure-len3 .ensures .0 ∙ length-same (c .before .before .before .before .before .before .wide .ensures .0),
+      c .before .before .before .before .before .figure-len3 .ensures .1,
+    ) (c .before .moves-len .ensures .0)
     (c .before .moves-len .ensures .1)
 
 returns : tie.Need-returns Inv-loop μ-loop

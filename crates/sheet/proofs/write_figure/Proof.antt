@@ -34,7 +34,9 @@ add-out : tie.Need-add-out
 add-out c = search needs
 
 slice-write-out-3 : tie.Need-slice-write-out-3
-slice-write-out-3 c = simp length-set (omega (arith, length-two (c .before .before .before .before .before .args .n) (c .before .before .before .if1 .left) (c .before .before .if2 .taken)))
+slice-write-out-3 c =
+    simp length-set
+    (omega (arith, length-two (c .before .before .before .before .before .args .n) (c .before .before .before .if1 .left) (c .before .before .if2 .taken)))
 
 add-result-2 : tie.Need-add-result-2
 add-result-2 c = search needs
@@ -67,7 +69,8 @@ add-out-3 : tie.Need-add-out-3
 add-out-3 c = search needs
 
 slice-write-out-6 : tie.Need-slice-write-out-6
-slice-write-out-6 c = simp length-set (omega (arith, length-three (c .before .before .before .before .before .before .args .n) (c .before .before .before .if2 .left)))
+slice-write-out-6 c =
+    simp length-set (omega (arith, length-three (c .before .before .before .before .before .before .args .n) (c .before .before .before .if2 .left)))
 
 add-result-3 : tie.Need-add-result-3
 add-result-3 c = search needs

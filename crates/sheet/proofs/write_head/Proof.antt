@@ -39,7 +39,8 @@ slice-aggregate-write-bytes-3 c = search needs
 
 write-bytes-requires-3 : tie.Need-write-bytes-requires-3
 write-bytes-requires-3 c κs =
-    let a = c .before .before .before .before .before .before .before .before .before .before .before .before .before .before .before .before .before .before .before .before .before .args in
+    let a = c .before .before .before .before .before .before .before .before .before .before .before .before .before .before .before .before .before .before
+    .before .before .before .args in
     omega (arith, length-head (a .m) (a .size) (a .start))
 
 wide-requires : tie.Need-wide-requires
@@ -47,7 +48,8 @@ wide-requires c κs = search needs
 
 write-figure-requires-3 : tie.Need-write-figure-requires-3
 write-figure-requires-3 c κs =
-    let a = c .before .before .before .before .before .before .before .before .before .before .before .before .before .before .before .before .before .before .before .before .before .before .before .before .before .before .args in
+    let a = c .before .before .before .before .before .before .before .before .before .before .before .before .before .before .before .before .before .before
+    .before .before .before .before .before .before .before .before .args in
     (omega arith, omega (arith, length-head (a .m) (a .size) (a .start), length-same (c .before .wide .ensures .0)))
 
 slice-aggregate-write-bytes-4 : tie.Need-slice-aggregate-write-bytes-4
@@ -55,8 +57,16 @@ slice-aggregate-write-bytes-4 c = search needs
 
 write-bytes-requires-4 : tie.Need-write-bytes-requires-4
 write-bytes-requires-4 c κs =
-    let a = c .before .before .before .before .before .before .before .before .before .before .before .before .before .before .before .before .before .before .before .before .before .before .before .before .before .before .before .before .before .before .before .args in
-    omega (arith, c .before .before .before .before .before .before .before .before .before .before .before .before .before .before .before .before .before .before .before .before .before .before .before .before .before .before .before .before .before .before .before .pre .2, length-head (a .m) (a .size) (a .start), length-same (c .before .before .before .before .before .before .wide .ensures .0))
+    let a = c .before .before .before .before .before .before .before .before .before .before .before .before .before .before .before .before .before .before
+    .before .before .before .before .before .before .before .before .before .before .before .before .before .args in
+    omega (
+      arith,
+      c .before .before .before .before .before .before .before .before .before .before .before .before .before .before .before .before .before
+          .before .before .before .before .before .before .before .before .before .before .before .before .before .before .pre .2,
+      length-head (a .m) (a .size)
+          (a .start),
+      length-same (c .before .before .before .before .before .before .wide .ensures .0),
+    )
 
 same-length : tie.Need-same-length
 same-length c = search needs

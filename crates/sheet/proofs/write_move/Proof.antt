@@ -35,7 +35,8 @@ wide-requires c κs = search needs
 
 write-figure-requires : tie.Need-write-figure-requires
 write-figure-requires c κs =
-    let a = c .before .before .before .before .before .before .before .before .before .before .before .before .before .before .before .before .before .before .args in
+    let a = c .before .before .before .before .before .before .before .before .before .before .before .before .before .before .before .before .before
+    .before .args in
     (omega arith, omega (arith, length-move (now (a .name)) (a .pre) (a .post), length-same (c .before .wide .ensures .0)))
 
 slice-aggregate-write-bytes-3 : tie.Need-slice-aggregate-write-bytes-3
@@ -43,7 +44,8 @@ slice-aggregate-write-bytes-3 c = search needs
 
 write-bytes-requires-4 : tie.Need-write-bytes-requires-4
 write-bytes-requires-4 c κs =
-    let a = c .before .before .before .before .before .before .before .before .before .before .before .before .before .before .before .before .before .before .before .before .before .before .before .args in
+    let a = c .before .before .before .before .before .before .before .before .before .before .before .before .before .before .before .before .before .before
+    .before .before .before .before .before .args in
     omega (arith, length-move (now (a .name)) (a .pre) (a .post), length-same (c .before .before .before .before .before .before .wide .ensures .0))
 
 wide-requires-2 : tie.Need-wide-requires-2
@@ -51,16 +53,35 @@ wide-requires-2 c κs = search needs
 
 write-figure-requires-2 : tie.Need-write-figure-requires-2
 write-figure-requires-2 c κs =
-    let a = c .before .before .before .before .before .before .before .before .before .before .before .before .before .before .before .before .before .before .before .before .before .before .before .before .before .before .before .before .args in
-    (omega arith, omega (arith, length-move (now (a .name)) (a .pre) (a .post), length-same (c .before .before .before .before .before .before .before .before .before .before .before .wide .ensures .0), length-same (c .before .wide2 .ensures .0)))
+    let a = c .before .before .before .before .before .before .before .before .before .before .before .before .before .before .before .before .before .before
+    .before .before .before .before .before .before .before .before .before .before .args in (
+      omega arith,
+      omega (
+        arith,
+        length-move (now (a .name)) (a .pre) (a .post),
+        length-same (c .before .before .before .before .before .before .before .before .before .before .before .wide .ensures .0),
+        length-same (c .before .wide2 .ensures .0),
+      ),
+    )
 
 slice-aggregate-write-bytes-4 : tie.Need-slice-aggregate-write-bytes-4
 slice-aggregate-write-bytes-4 c = search needs
 
 write-bytes-requires-5 : tie.Need-write-bytes-requires-5
 write-bytes-requires-5 c κs =
-    let a = c .before .before .before .before .before .before .before .before .before .before .before .before .before .before .before .before .before .before .before .before .before .before .before .before .before .before .before .before .before .before .before .before .before .args in
-    omega (arith, c .before .before .before .before .before .before .before .before .before .before .before .before .before .before .before .before .before .before .before .before .before .before .before .before .before .before .before .before .before .before .before .before .before .pre, c .before .before .before .before .before .before .before .before .before .before .before .before .before .before .before .before .before .before .before .before .before .before .before .before .before .before .before .before .write-bytes .ensures .after, length-move (now (a .name)) (a .pre) (a .post), length-same (c .before .before .before .before .before .before .before .before .before .before .before .before .before .before .before .before .wide .ensures .0), length-same (c .before .before .before .before .before .before .wide2 .ensures .0))
+    let a = c .before .before .before .before .before .before .before .before .before .before .before .before .before .before .before .before .before .before
+    .before .before .before .before .before .before .before .before .before .before .before .before .before .before .before .args in
+    omega (
+      arith,
+      c .before .before .before .before .before .before .before .before .before .before .before .before .before .before .before .before .before
+          .before .before .before .before .before .before .before .before .before .before .before .before .before .before .before .before .pre,
+      c .before .before .before .before .before .before .before .before .before .before .before .before .before .before .before .before .before .before .before
+          .before .before .before .before .before .before .before .before .before .write-bytes .ensures .after,
+      length-move (now (a .name)) (a .pre) (a .post),
+      length-same (c .before .before .before .before .before .before .before .before .before .before .before .before .before .before .before
+          .before .wide .ensures .0),
+      length-same (c .before .before .before .before .before .before .wide2 .ensures .0),
+    )
 
 same-length : tie.Need-same-length
 same-length c = search needs

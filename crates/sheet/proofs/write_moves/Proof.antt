@@ -42,7 +42,12 @@ shared-slice-read-end : tie.Need-shared-slice-read-end Inv-loop μ-loop
 shared-slice-read-end c = search needs
 
 add-end : tie.Need-add-end Inv-loop μ-loop
-add-end c = omega (arith, name-inside _ _ _ (c .before .before .before .before .before .before .before .before .before .before .before .before .before .pre .1 .0) (c .before .before .before .before .before .before .loop .e) (omega arith))
+add-end c =
+    omega (
+      arith,
+      name-inside _ _ _ (c .before .before .before .before .before .before .before .before .before .before .before .before .before .pre .1 .0)
+          (c .before .before .before .before .before .before .loop .e) (omega arith),
+    )
 
 sub-write-move : tie.Need-sub-write-move Inv-loop μ-loop
 sub-write-move c = search needs
@@ -51,7 +56,12 @@ part-write-move-start : tie.Need-part-write-move-start Inv-loop μ-loop
 part-write-move-start c = search needs
 
 part-write-move-end : tie.Need-part-write-move-end Inv-loop μ-loop
-part-write-move-end c = omega (arith, name-inside _ _ _ (c .before .before .before .before .before .before .before .before .before .before .before .before .before .pre .1 .0) (c .before .before .before .before .before .before .loop .e) (omega arith))
+part-write-move-end c =
+    omega (
+      arith,
+      name-inside _ _ _ (c .before .before .before .before .before .before .before .before .before .before .before .before .before .pre .1 .0)
+          (c .before .before .before .before .before .before .loop .e) (omega arith),
+    )
 
 add-write-move : tie.Need-add-write-move Inv-loop μ-loop
 add-write-move c = search needs
@@ -61,7 +71,9 @@ shared-slice-read-write-move c = search needs
 
 write-move-requires : tie.Need-write-move-requires Inv-loop μ-loop
 write-move-requires c κs =
-    moved-room (c .before .before .before .before .before .before .before .before .before .loop .inv) (c .before .before .before .before .before .before .before .before .loop-test .taken) (omega arith) (c .before .before .before .before .before .before .before .before .before .before .before .before .before .before .before .before .pre .1 .1)
+    moved-room (c .before .before .before .before .before .before .before .before .before .loop .inv)
+    (c .before .before .before .before .before .before .before .before .loop-test .taken) (omega arith)
+    (c .before .before .before .before .before .before .before .before .before .before .before .before .before .before .before .before .pre .1 .1)
 
 add-e : tie.Need-add-e Inv-loop μ-loop
 add-e c = search needs

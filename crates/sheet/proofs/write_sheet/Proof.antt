@@ -22,13 +22,17 @@ given c = c .before .before .before .before .before .before .before .before .bef
 
 -- the first line
 titled : (c : tie.After-slice-known4 Inv-loop μ-loop)
-    → Writes (title ((given c) .args .t2 .machines)) 0 (now ((given c) .args .out)) (c .before .before .write-bytes2 .result) (c .before .before .write-bytes2 .last .1 .0)
+    → Writes (title ((given c) .args .t2 .machines)) 0 (now ((given c) .args .out)) (c .before .before .write-bytes2 .result)
+    (c .before .before .write-bytes2 .last .1 .0)
 unfolding title
-titled c = writes-append (c .before .before .before .before .before .before .before .before .before .before .before .write-bytes .ensures) (writes-append (c .before .before .before .before .before .before .before .write-figure .ensures) (c .before .before .write-bytes2 .ensures))
+titled c =
+    writes-append (c .before .before .before .before .before .before .before .before .before .before .before .write-bytes .ensures)
+    (writes-append (c .before .before .before .before .before .before .before .write-figure .ensures) (c .before .before .write-bytes2 .ensures))
 
 -- the line of a machine has room
 line-room : (c : tie.In-loop Inv-loop μ-loop)
-    → LineRoom (now ((given (c .before .before)) .args .text)) ((given (c .before .before)) .args .t2) (now ((given (c .before .before)) .args .pre)) (now ((given (c .before .before)) .args .post)) (c .before .loop .i) (c .before .loop .out) (c .before .loop .m)
+    → LineRoom (now ((given (c .before .before)) .args .text)) ((given (c .before .before)) .args .t2) (now ((given (c .before .before)) .args .pre))
+    (now ((given (c .before .before)) .args .post)) (c .before .loop .i) (c .before .loop .out) (c .before .loop .m)
 line-room c = lined-room (c .before .loop .inv) (c .loop-test .taken) (titled (c .before .before)) ((given (c .before .before)) .pre .1)
 
 slice-aggregate-write-bytes : tie.Need-slice-aggregate-write-bytes Inv-loop μ-loop
@@ -71,15 +75,24 @@ element-copy-out-size : tie.Need-element-copy-out-size Inv-loop μ-loop
 element-copy-out-size c = search needs
 
 write-head-requires : tie.Need-write-head-requires Inv-loop μ-loop
-write-head-requires c κs =
-    (omega arith, omega (arith, (given (c .before .before .before .before .before)) .pre .0 .0 .sizes (c .before .before .before .before .loop .m) (omega arith)), room-first (line-room (c .before .before .before)))
+write-head-requires c κs = (
+  omega arith,
+  omega (
+    arith,
+    (given (c .before .before .before .before .before)) .pre .0 .0 .sizes (c .before .before .before .before .loop .m)
+        (omega arith),
+  ),
+  room-first (line-room (c .before .before .before)),
+)
 
 write-moves-requires : tie.Need-write-moves-requires Inv-loop μ-loop
 write-moves-requires c κs =
     let h = c .before .before .before .before .before .before .before .before in
     let l = h .before .before .before .before in
-    let p = (given (l .before .before)) .pre .0 in
-    ((omega (arith, l .loop-test .taken, p .0 .machines), p .0 .events, search needs, search needs, p .1), (p .2, room-second (line-room l) (h .write-head .ensures)))
+    let p = (given (l .before .before)) .pre .0 in (
+      (omega (arith, l .loop-test .taken, p .0 .machines), p .0 .events, search needs, search needs, p .1),
+      (p .2, room-second (line-room l) (h .write-head .ensures)),
+    )
 
 slice-aggregate-write-bytes-3 : tie.Need-slice-aggregate-write-bytes-3 Inv-loop μ-loop
 slice-aggregate-write-bytes-3 c = search needs
@@ -93,7 +106,8 @@ write-bytes-requires-3 c κs =
 
 add-m : tie.Need-add-m Inv-loop μ-loop
 add-m c =
-    let l = c .before .before .before .before .before .before .before .before .before .before .before .before .before .before .before .before .before .before .before .before in
+    let l = c .before .before .before .before .before .before .before .before .before .before .before .before .before .before .before .before .before .before
+    .before .before in
     omega (arith, l .loop-test .taken, (given (l .before .before)) .pre .0 .0 .machines)
 
 loop-less : tie.Need-loop-less Inv-loop μ-loop
@@ -101,8 +115,13 @@ loop-less c = search needs
 
 loop-again : tie.Need-loop-again Inv-loop μ-loop
 loop-again c =
-    lined-add (c .before .before .before .before .before .before .before .before .before .before .before .before .before .before .before .before .before .before .before .before .before .loop .inv) (c .before .before .before .before .before .before .before .before .before .before .before .before .before .before .before .before .before .before .before .before .loop-test .taken)
-    (writes-append (c .before .before .before .before .before .before .before .before .before .before .before .before .before .before .before .before .write-head .ensures) (writes-append (c .before .before .before .before .before .before .before .write-moves .ensures) (c .before .before .write-bytes3 .ensures)))
+    lined-add (c .before .before .before .before .before .before .before .before .before .before .before .before .before .before .before .before .before
+    .before .before .before .before .loop .inv)
+    (c .before .before .before .before .before .before .before .before .before .before .before .before .before .before .before .before .before .before .before
+    .before .loop-test .taken)
+    (writes-append (c .before .before .before .before .before .before .before .before .before .before .before .before .before .before .before
+    .before .write-head .ensures)
+    (writes-append (c .before .before .before .before .before .before .before .write-moves .ensures) (c .before .before .write-bytes3 .ensures)))
 
 same-length : tie.Need-same-length Inv-loop μ-loop
 same-length c = writes-length (c .before .loop .inv .written) ∙ writes-length (titled (c .before .before))
