@@ -1,0 +1,32 @@
+// Refusals 4 to 12 of a text's rows, in the fixed order.
+ghost use mathlib.Core.Path.{_≡_};
+ghost use mathlib.Core.Option.{none};
+ghost use Rattle.model.specs.Machine.{Decomposition};
+ghost use Rattle.reader.specs.Tables.{verdictRefusal};
+ghost use Rattle.reader.specs.Told.{systemOf, MachinesTold};
+ghost use Rattle.reader.specs.Bounded.{Bounded};
+ghost use Rattle.regions.specs.Moves.{MoveRows, MovesTold};
+ghost use Rattle.checker.specs.Order.{refusalTo12};
+use closure::check_cover;
+use reader::Tables;
+use reader::Verdict;
+use regions::check_regions;
+use transition_system::check_transition_system;
+
+// As far as 12. Passed, the rows have the move of each event on each machine.
+pub fn check_as_far_as_12(p: Tables, pre: &mut [u8], post: &mut [u8]) -> Verdict
+    requires { ⌜ Bounded p × MoveRows (now pre) (now post) ⌝ }
+    ensures { λ r. ⌜ ((ms : Decomposition) → MachinesTold (systemOf p) p ms → verdictRefusal r ≡ refusalTo12 (systemOf p) ms) ⌝ }
+    ensures { λ r. ⌜ ((ms : Decomposition) → MachinesTold (systemOf p) p ms → verdictRefusal r ≡ none → MovesTold (systemOf p) ms (now (pre .exit)) (now (post .exit))) ⌝ }
+{
+    let mut excited = [0u64; 256];
+    let system = check_transition_system(p, &mut excited);
+    if let Verdict::Refused(why) = system {
+        return Verdict::Refused(why);
+    }
+    let machines = check_regions(p, pre, post);
+    if let Verdict::Refused(why) = machines {
+        return Verdict::Refused(why);
+    }
+    check_cover(p, &excited, pre)
+}

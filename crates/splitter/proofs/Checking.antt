@@ -1,0 +1,79 @@
+-- Check and sheet in the model's words, by what the code finds out on its way: whether the text is read, what 4 to 12 say of its value, and whether the
+-- sheet fits.
+use Prim.Native.Nat.{ℕ, _<_, _≤_}
+use mathlib.Core.Path.{_≡_, refl, ap, sym}
+use mathlib.Core.List.{List, _++_}
+use mathlib.Core.Option.{Option, none, some, Option·some-ne-none, Option·some-injective, orElse}
+use borrow.Author.Tests.{le-leb, lt-leb}
+use lib.ListN.{length, drop}
+use Rattle.model.specs.Refusal.{Refusal, refuse, Checked, refused, passed, unless, refusalOf, _>>=_, _>>_}
+use Rattle.model.specs.TransitionSystem.{systemRefusal}
+use Rattle.model.specs.Machine.{machinesRefusal, coverRefusal}
+use Rattle.model.specs.Text.{Input, system, read}
+use Rattle.model.specs.Sheet.{sheet}
+use Rattle.model.specs.Services.{asFarAs7, asFarAs10, asFarAs12, lend, check}
+use Rattle.model.proofs.Lending.{checking}
+use Rattle.checker.specs.Order.{refusalTo12}
+
+-- what passed, if nothing is refused
+pub was-passed : {A : Type 0} (c : Checked A) → refusalOf c ≡ none → (a : A) × (c ≡ passed a)
+was-passed (refused r) e = absurd (Option·some-ne-none r e)
+was-passed (passed a) e = (a, refl)
+
+was-refused : {A : Type 0} (c : Checked A) (r : Refusal) → refusalOf c ≡ some r → c ≡ refused r
+was-refused (refused q) r e = ap refused (Option·some-injective q r e)
+was-refused (passed a) r e = absurd (Option·some-ne-none r (sym e))
+
+-- three checks, one after the other, are one
+joined : (v : Input) (a : Option Refusal) (f g : Input → Option Refusal)
+    → (((unless a >> passed v) >>= λ w. unless (f w) >> passed w) >>= λ w. unless (g w) >> passed w) ≡ (unless (orElse a (orElse (f v) (g v))) >> passed v)
+unfolding orElse
+joined v (some r) f g = refl
+joined v none f g = next (f v)
+  where
+    next : (b : Option Refusal) → ((unless b >> passed v) >>= λ w. unless (g w) >> passed w) ≡ (unless (orElse b (g v)) >> passed v)
+    next none = refl
+    next (some r) = refl
+
+module _ (s out : List ℕ) where
+  -- this is what the call answers and leaves
+  abbrev pub Gives : Checked ℕ → List ℕ → Type 0
+  Gives a left = (a ≡ check s out .answer) × (left ≡ check s out .left)
+
+  gives-refusal : (r : Refusal) → asFarAs12 s ≡ refused r → Gives (refused r) out
+  unfolding check lend
+  gives-refusal r e = rw e (refl, refl)
+
+  -- refused by 1 to 3
+  pub unread : (r : Refusal) → refusalOf (read s) ≡ some r → Gives (refused r) out
+  unfolding asFarAs12 asFarAs10 asFarAs7
+  unread r e = gives-refusal r (rw (was-refused (read s) r e))
+
+  module _ (v : Input) (e : read s ≡ passed v) where
+    in-one : asFarAs12 s ≡ (unless (refusalTo12 (system v) (v .machines)) >> passed v)
+    unfolding asFarAs12 asFarAs10 asFarAs7 refusalTo12
+    in-one =
+        rw e
+        (joined v (systemRefusal (system v)) (λ w. machinesRefusal (system w) 0 (w .machines)) (λ w. coverRefusal (system w) (w .machines)))
+
+    -- refused by 4 to 12
+    pub turned-down : (r : Refusal) → refusalTo12 (system v) (v .machines) ≡ some r → Gives (refused r) out
+    turned-down r h = gives-refusal r (rw h at in-one)
+
+    module _ (h : refusalTo12 (system v) (v .machines) ≡ none) where
+      lends-sheet : check s out ≡ lend (passed (sheet v)) out
+      unfolding check
+      lends-sheet = rw (rw h at in-one)
+
+      -- refused by 13
+      pub too-short : length out < length (sheet v) → Gives (refused (refuse 13 (length (sheet v)) 0)) out
+      unfolding lend
+      too-short l = rw (lends-sheet, lt-leb (length (sheet v)) (length out) l) (refl, refl)
+
+      pub accepted : length (sheet v) ≤ length out → Gives (passed (length (sheet v))) (sheet v ++ drop (length (sheet v)) out)
+      unfolding lend
+      accepted l = rw (lends-sheet, le-leb (length (sheet v)) (length out) l) (refl, refl)
+
+-- an accepted split's sheet is within the buffer
+pub accepted-fits : (s out : List ℕ) (n : ℕ) → passed n ≡ check s out .answer → n ≤ length out
+accepted-fits s out n e = checking s out .accepts n .0 (sym e) .3

@@ -1,0 +1,2 @@
+-- `Answers`: the calls' answers in the model's words.
+pub mod Answers
