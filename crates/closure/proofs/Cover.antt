@@ -2,14 +2,14 @@
 use Prim.Native.Nat.{ℕ, zero, suc, _+_, _*_, _<_, _≤_}
 use native.Mathlib.Omega.{arith}
 use mathlib.Core.Path.{_≡_, refl, ap, sym, _∙_}
-use mathlib.Core.Bool.{Bool, true, false, not, cond, _&&_, _||_, and-true, and-false, and-assoc, or-false, or-assoc, false≢true}
-use mathlib.Core.List.{List, [], _∷_, _++_, flatten}
-use mathlib.Core.Option.{Option, none, some, Option·none-ne-some, Option·some-injective, orElse}
+use mathlib.Core.Bool.{Bool, true, false, not, cond, _&&_, _||_, and-true, and-false, and-assoc, false≢true}
+use mathlib.Core.List.{List, [], _∷_, _++_}
+use mathlib.Core.Option.{Option, none, some, orElse}
 use borrow.Author.Tests.{lt-ltb, le-ltb, ltb-true}
-use lib.Dec.{T, eqb, ltb}
+use lib.Dec.{T, ltb}
 use lib.ListN.{length, take}
 use lib.Seq.{take-suc, take-length}
-use Rattle.model.specs.Lists.{At, exists, every, isSome, elem, lowest}
+use Rattle.model.specs.Lists.{At, exists, every, isSome, lowest}
 use Rattle.model.specs.Refusal.{Refusal, refuse}
 use Rattle.model.specs.TransitionSystem.{TransitionSystem}
 use Rattle.model.specs.Machine.{Machine, Decomposition, placeOf, inAlphabet, effective, inPre, ready, common, excited, openState, openEvent, ineffectiveEvent, machinesRefusal, closureRefusal, coverRefusal}
@@ -18,27 +18,20 @@ use Rattle.model.proofs.Positions.{at-below, below-at, at-mem, at-value}
 use Rattle.model.proofs.Passed.{machines-good}
 use Rattle.state_set.specs.Rows.{memberAt}
 use Rattle.reader.specs.declared.Tables.{Tables}
-use Rattle.reader.specs.Told.{entry, systemOf, orNone, below, placeAt, MachinesTold}
+use Rattle.reader.specs.Told.{entry, systemOf, below, MachinesTold}
 use Rattle.reader.specs.Bounded.{Bounded}
+use Rattle.reader.proofs.Searches.{below-in, below-out, lowest-same}
+use Rattle.reader.proofs.Fronts.{exists-snoc}
+use Rattle.reader.proofs.Telling.{placed-at}
 use Rattle.transition_system.specs.Sets.{Excitations}
 use Rattle.regions.specs.Moves.{moveAt, MovesTold}
 use Rattle.closure.specs.Covers.{PlaceSets, onMachine, onSome, commonTo, openIn, openRefusal}
-use Rattle.closure.proofs.Searches.{lowest-same, lowest-within, open-is, none-open}
+use Rattle.closure.proofs.Searches.{lowest-within, open-is, none-open}
 
--- ---- the first n of a list, and one more
-module _ {A : Type 0} where
-  take-at : (l : List A) (n : ℕ) (x : A) → At l n x → take (suc n) l ≡ take n l ++ (x ∷ [])
-  take-at l n x h = take-suc l n x (at-below l n x h) ∙ ap (λ (y : A). take n l ++ (y ∷ [])) (at-value l n x x h)
-
-  exists-snoc : (f : A → Bool) (l : List A) (x : A) → exists f (l ++ (x ∷ [])) ≡ (exists f l || f x)
-  unfolding exists
-  exists-snoc f [] x = or-false (f x)
-  exists-snoc f (y ∷ l) x = rw (exists-snoc f l x, or-assoc)
-
-  every-snoc : (f : A → Bool) (l : List A) (x : A) → every f (l ++ (x ∷ [])) ≡ (every f l && f x)
-  unfolding every
-  every-snoc f [] x = and-true (f x)
-  every-snoc f (y ∷ l) x = rw (every-snoc f l x, and-assoc)
+every-snoc : {A : Type 0} (f : A → Bool) (l : List A) (x : A) → every f (l ++ (x ∷ [])) ≡ (every f l && f x)
+unfolding every
+every-snoc f [] x = and-true (f x)
+every-snoc f (y ∷ l) x = rw (every-snoc f l x, and-assoc)
 
 isSome-cond : {A : Type 0} (b : Bool) (a : A) → isSome (cond b (some a) none) ≡ b
 unfolding isSome
@@ -57,7 +50,7 @@ module _ (ts : TransitionSystem) (ms : Decomposition) (place pre post : List ℕ
   on-first e zero l b = refl
   on-first e (suc n) l b =
       let w = below-at ms n b in
-      rw (on-first e n l (omega arith), on-machine e n (w .0) l (w .1), take-at ms n (w .0) (w .1)) (sym (exists-snoc (inAlphabet ts e) (take n ms) (w .0)))
+      rw (on-first e n l (omega arith), on-machine e n (w .0) l (w .1), take-suc ms n (w .0), at-value ms n (w .0) (w .0) (w .1)) (sym (exists-snoc (inAlphabet ts e) (take n ms) (w .0)))
 
   on-all : (e : ℕ) → e < ts .events → onSome pre e (length ms) ≡ effective ts ms e
   unfolding effective
@@ -90,7 +83,7 @@ module _ (ts : TransitionSystem) (ms : Decomposition) (place pre post : List ℕ
     common-first e i zero l b c = lt-ltb i 256 (omega arith)
     common-first e i (suc n) l b c =
         let w = below-at ms n c in
-        rw (common-first e i n l b (omega arith), machine-ready e n i (w .0) l b (w .1), take-at ms n (w .0) (w .1))
+        rw (common-first e i n l b (omega arith), machine-ready e n i (w .0) l b (w .1), take-suc ms n (w .0), at-value ms n (w .0) (w .0) (w .1))
         (sym (every-snoc (ready ts e i) (take n ms) (w .0)))
 
     common-all : (e i : ℕ) → e < ts .events → i < ts .states → commonTo sets pre e (length ms) i ≡ common ts ms e i
@@ -135,40 +128,28 @@ module _ (ts : TransitionSystem) (ms : Decomposition) (place pre post : List ℕ
             at : (s : Option ℕ) → openState ts ms e ≡ s → T (isSome s) → openRefusal (openIn sets pre excitations (length ms)) (ts .events) ≡ closureRefusal ts ms (openEvent ts ms)
             at none v u = absurd u
             at (some s) v u =
-                open-is _ e (ts .events) s l (none-open _ e (λ k b. shut k (omega arith) (h k b))) (open-same e l (o e l) ∙ v)
+                open-is _ e (ts .events) s l (λ k b. shut k (omega arith) (h k b)) (open-same e l (o e l) ∙ v)
                 ∙ rw (q, v)
 
 -- ---- what the tables tell
--- a state that is placed has its place in the row
-told-place : (x q : ℕ) → orNone 255 x ≡ some q → x ≡ q
-unfolding orNone
-told-place x q h = go (eqb x 255) refl
-  where
-    go : (t : Bool) → eqb x 255 ≡ t → x ≡ q
-    go true e = absurd (Option·none-ne-some q (rw e at h))
-    go false e = Option·some-injective x q (rw e at h)
-
 module _ (p : Tables) (bounds : Bounded p) (ms : Decomposition) (pre post : List ℕ) (machines : MachinesTold (systemOf p) p ms)
     (passed : machinesRefusal (systemOf p) 0 ms ≡ none) (moves : MovesTold (systemOf p) ms pre post) (event : ℕ)
     (answer : below (p .events) event ≡ lowest (λ (e : ℕ). not (onSome pre e (p .machines))) (p .events)) where
   places : (k i : ℕ) (m : Machine) → At ms k m → i < systemOf p .states → entry (p .place) (k * 256 + i) ≡ placeOf m i
-  unfolding systemOf placeAt
+  unfolding systemOf
   places k i m a l =
-      told-place (entry (p .place) (k * 256 + i)) (placeOf m i)
-      (machines .machine k m a .place i (omega (arith, bounds .states))
-      ∙ rw (T-true (elem i (flatten (m .places))) (machines-good (systemOf p) 0 ms passed m (at-mem ms k m a) .base .placed i l)))
+      placed-at (machines .machine k m a) i (omega (arith, bounds .states)) (machines-good (systemOf p) 0 ms passed m (at-mem ms k m a) .base .placed i l)
 
   eleven : below (p .events) event ≡ ineffectiveEvent (systemOf p) ms
   unfolding systemOf
   eleven = (rw (machines .counted) at answer) ∙ ineffective-same (systemOf p) ms (p .place) pre post places moves
 
   pub cover-refused : event < p .events → some (refuse 11 event 0) ≡ coverRefusal (systemOf p) ms
-  unfolding coverRefusal below orElse
-  cover-refused l = rw (sym eleven, lt-ltb event (p .events) l)
+  unfolding coverRefusal orElse
+  cover-refused l = rw (sym eleven, below-in (p .events) event l)
 
   all-effective : p .events ≤ event → ineffectiveEvent (systemOf p) ms ≡ none
-  unfolding below
-  all-effective l = sym eleven ∙ rw (le-ltb event (p .events) l)
+  all-effective l = sym eleven ∙ below-out (p .events) event l
 
   effective-each : ineffectiveEvent (systemOf p) ms ≡ none → (e : ℕ) → e < systemOf p .events → effective (systemOf p) ms e ≡ true
   unfolding ineffectiveEvent

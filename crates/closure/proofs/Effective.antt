@@ -1,14 +1,16 @@
--- An event on one of the first machines.
+-- An event on one of the first machines, and the lowest that is on none.
 use Prim.Native.Nat.{ℕ, zero, suc, _+_, _*_, _<_, _≤_}
 use native.Mathlib.Numerals.{add-one}
 use native.Mathlib.Omega.{arith}
 use mathlib.Core.Path.{_≡_, refl, sym, subst}
 use mathlib.Core.Logic.{_⊎_, inl, inr}
-use mathlib.Core.Bool.{true, false, or-true}
+use mathlib.Core.Bool.{true, false, not, or-true}
 use mathlib.Core.List.{List}
 use borrow.Author.Tests.{lt-ltb, le-ltb}
+use Rattle.model.specs.Lists.{lowest}
 use Rattle.model.proofs.Laws.{below-suc}
-use Rattle.reader.specs.Told.{entry}
+use Rattle.reader.specs.Told.{entry, below}
+use Rattle.reader.proofs.Searches.{Upto, searched}
 use Rattle.closure.specs.Covers.{onMachine, onSome}
 
 -- the event is on none of the first k machines
@@ -42,3 +44,8 @@ on-some pre e k (suc n) l t = go (below-suc k n l) (λ b. on-some pre e k n b t)
 pub on-found : (pre : List ℕ) (e machines : ℕ) {k q : ℕ} → k < machines → q ≡ entry pre (k * 64 + e) → q < 64 → true ≡ onSome pre e machines
 unfolding onMachine
 on-found pre e machines {k} {q} l v h = let b : entry pre (k * 64 + e) < 64 = omega arith in sym (on-some pre e k machines l (lt-ltb (entry pre (k * 64 + e)) 64 b))
+
+-- the search stops at an event that is on no machine, or at the end
+pub ineffective-found : (pre : List ℕ) (machines : ℕ) {n e : ℕ} → Upto (λ j. onSome pre j machines ≡ true) n e → (e < n → onSome pre e machines ≡ false)
+    → below n e ≡ lowest (λ j. not (onSome pre j machines)) n
+ineffective-found pre machines {n} {e} u h = searched _ n e (u .most) (λ j l. rw (u .each j l) tt) (λ l. rw (h l) tt)

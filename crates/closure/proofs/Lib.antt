@@ -1,6 +1,6 @@
 -- The laws behind refusals 11 and 12.
 
--- searches for the lowest number
+-- searches over the states and the events
 pub mod Searches
 -- an event on one of the machines
 pub mod Effective

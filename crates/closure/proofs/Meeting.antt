@@ -13,8 +13,8 @@ use Rattle.state_set.specs.Member.{member}
 use Rattle.state_set.specs.Rows.{setAt, memberAt}
 use Rattle.state_set.proofs.Sets.{fullSet, full-member}
 use Rattle.reader.specs.Told.{entry}
+use Rattle.reader.proofs.Searches.{lowest-same}
 use Rattle.closure.specs.Covers.{onMachine, commonTo, openIn}
-use Rattle.closure.proofs.Searches.{lowest-same}
 
 -- the set has the states common to the pre-places on the first k machines
 pub record Meeting (sets pre : List ℕ) (e machines : ℕ) (common : StateSet) (k : ℕ) : Type 0 where

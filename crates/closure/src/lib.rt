@@ -20,6 +20,8 @@ use model::MAX_STATES;
 use model::Refusal;
 use reader::Tables;
 use reader::Verdict;
+use reader::narrow;
+use reader::wide;
 use state_set::Found;
 use state_set::StateSet;
 use state_set::insert;
@@ -27,19 +29,6 @@ use state_set::load;
 use state_set::lowest;
 use state_set::meet;
 use state_set::without;
-
-fn wide(x: u8) -> usize
-    ensures { λ r. ⌜ (r ≡ x) × (r < 256) ⌝ }
-{
-    x as usize
-}
-
-fn narrow(x: usize) -> u8
-    requires { ⌜ x < 256 ⌝ }
-    ensures { λ r. ⌜ r ≡ x ⌝ }
-{
-    x as u8
-}
 
 // The places of machine m as sets, in one pass over its states.
 fn add_places(place: &[u8], n: usize, m: usize, sets: &mut [u64])

@@ -6,6 +6,7 @@ use libc::STDOUT_FILENO;
 use model::Refusal;
 use reader::Tables;
 use reader::Verdict;
+use reader::wide;
 
 fn put(word: &[u8]) {
     io::write_all(STDOUT_FILENO, word);
@@ -14,12 +15,6 @@ fn put(word: &[u8]) {
 fn put_number(n: usize) {
     put(b" ");
     io::print_decimal(STDOUT_FILENO, n as u64);
-}
-
-fn wide(x: u8) -> usize
-    ensures { λ r. ⌜ r < 256 ⌝ }
-{
-    x as usize
 }
 
 // The numbers of a refusal by 1, 2 or 3; others do not come from the reader.

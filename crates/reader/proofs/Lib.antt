@@ -1,5 +1,8 @@
 -- The laws behind the reader's functions.
 
+-- searches in rising order, and the transitions of rows from the front: for the checks above the reader too
+pub mod Searches
+pub mod Fronts
 -- names: the table, looking one up, and that none is there twice
 pub mod NameRows
 -- rows that are stored into

@@ -1,18 +1,18 @@
 -- Looking names up in the rows of an events line: the first entry with a name's length and numbers is the event's number, and names are distinct if
 -- each is the first of its own.
-use Prim.Native.Nat.{ℕ, zero, suc, _+_, _<_, _≤_}
+use Prim.Native.Nat.{ℕ, _+_, _<_, _≤_}
 use borrow.Author.Count.{below-more}
 use native.Mathlib.Omega.{arith}
-use mathlib.Core.Path.{_≡_, refl, ap, sym, _∙_, subst}
+use mathlib.Core.Path.{_≡_, ap, sym, _∙_, subst}
 use mathlib.Core.Logic.{_⊎_, inl, inr}
-use mathlib.Core.Bool.{Bool, true, false, not}
-use mathlib.Core.List.{List, [], _∷_}
+use mathlib.Core.Bool.{true, false, not}
+use mathlib.Core.List.{List, []}
 use lib.Dec.{T}
 use lib.ListN.{length, getD}
 use Rattle.model.specs.Lists.{At, exists, index}
 use Rattle.model.specs.Bytes.{Name, IsName, sameName}
 use Rattle.model.specs.Text.{eventNumber, distinct}
-use Rattle.model.proofs.Laws.{dec, not-T, T-true, T-false, cond-true, cond-false}
+use Rattle.model.proofs.Laws.{dec, not-T, T-true, T-false}
 use Rattle.model.proofs.Positions.{at-below, at-getD, getD-mem, at-value, index-first, index-below, index-passes}
 use Rattle.model.proofs.Values.{same-eq, same-refl, mem-named, distinct-once, not-distinct}
 use Rattle.lexer.specs.Words.{high, low}
@@ -21,28 +21,13 @@ use Rattle.lines.specs.Lines.{eventsRows}
 use Rattle.lines.specs.declared.EventsLine.{EventsLine}
 use Rattle.lines.proofs.Rows.{row-at}
 use Rattle.reader.specs.Sections.{NameRows, Finds, Events}
+use Rattle.reader.proofs.Searches.{Upto, index-is}
 
 -- the entry j of the rows has the length n and the numbers h and l
 pub record Same (lens highs lows : List ℕ) (n h l j : ℕ) : Type 0 where
   pub high : getD highs j 0 ≡ h
   pub low : getD lows j 0 ≡ l
   pub long : getD lens j 0 ≡ n
-
--- the entries before k are others
-pub record Sought (count : ℕ) (lens highs lows : List ℕ) (n h l k : ℕ) : Type 0 where
-  pub most : k ≤ count
-  pub others : (j : ℕ) → j < k → Same lens highs lows n h l j → ⊥
-
--- the first that passes the test, by positions
-index-is : {A : Type 0} (f : A → Bool) (l : List A) (d : A) (k : ℕ) → k ≤ length l → ((j : ℕ) → j < k → T (not (f (getD l j d))))
-    → (k < length l → T (f (getD l k d))) → k ≡ index f l
-unfolding index
-index-is f [] d zero h b t = refl
-index-is f [] d (suc k) h b t = absurd (omega arith)
-index-is f (x ∷ l) d zero h b t = sym (cond-true (f x) 0 (suc (index f l)) (t (omega arith)))
-index-is f (x ∷ l) d (suc k) h b t =
-    let e : k ≡ index f l = index-is f l d k (omega arith) (λ j i. b (suc j) (omega arith)) (λ i. t (omega arith)) in
-    ap suc e ∙ sym (cond-false (f x) 0 (suc (index f l)) (b 0 (omega arith)))
 
 module _ {es : List Name} {count : ℕ} {lens highs lows : List ℕ} (r : NameRows es count lens highs lows) where
   module _ (k : ℕ) (b : k < count) where
@@ -78,25 +63,18 @@ module _ {es : List Name} {count : ℕ} {lens highs lows : List ℕ} (r : NameRo
             long = t .long ∙ ap length (sym i) ∙ sym p;
           }
 
--- the search begins, and goes on past an entry that is another
-pub seek-start : {count : ℕ} {lens highs lows : List ℕ} {n h l : ℕ} → Sought count lens highs lows n h l 0
-seek-start = record { most = omega arith; others = λ j i s. omega arith }
-
-module _ {count : ℕ} {lens highs lows : List ℕ} {n h l k : ℕ} where
-  pub seek-more : Sought count lens highs lows n h l k → k < count → (Same lens highs lows n h l k → ⊥) → Sought count lens highs lows n h l (k + 1)
-  seek-more s b o = record { most = omega arith; others = below-more _ _ (s .others) o }
-
-  -- the search stops at the entry, or at the end
-  pub finds : Sought count lens highs lows n h l k → (k < count → Same lens highs lows n h l k) → Finds count lens highs lows n h l k
-  unfolding eventNumber
-  finds s t =
-      record {
-        most = s .most;
-        number = λ es r e w p q o.
-            index-is (sameName e) es [] k (omega (arith, s .most, r .counted))
-            (λ j i. not-T (sameName e (getD es j [])) (λ u. s .others j i (name-same r j (omega (arith, s .most)) w p q o u)))
-            (λ i. same-name r k (omega (arith, r .counted)) w p q o (t (omega (arith, r .counted))));
-      }
+-- the search stops at the entry, or at the end
+pub finds : {count : ℕ} {lens highs lows : List ℕ} {n h l k : ℕ} → Upto (λ j. Same lens highs lows n h l j → ⊥) count k
+    → (k < count → Same lens highs lows n h l k) → Finds count lens highs lows n h l k
+unfolding eventNumber
+finds {k = k} s t =
+    record {
+      most = s .most;
+      number = λ es r e w p q o.
+          index-is (sameName e) es [] k (omega (arith, s .most, r .counted))
+          (λ j i. not-T (sameName e (getD es j [])) (λ u. s .each j i (name-same r j (omega (arith, s .most)) w p q o u)))
+          (λ i. same-name r k (omega (arith, r .counted)) w p q o (t (omega (arith, r .counted))));
+    }
 
 -- what looking the entry k up answers
 abbrev FindsEntry : ℕ → List ℕ → List ℕ → List ℕ → ℕ → ℕ → Type 0

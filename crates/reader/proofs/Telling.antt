@@ -4,15 +4,15 @@ use native.Mathlib.Omega.{arith}
 use borrow.Author.Tests.{ne-eqb}
 use mathlib.Core.Path.{_≡_, refl, ap, sym, _∙_, subst}
 use mathlib.Core.Logic.{_⊎_, inl, inr}
-use mathlib.Core.Bool.{Bool, not, cond}
+use mathlib.Core.Bool.{Bool, true, false, not, cond}
 use mathlib.Core.List.{List, [], _∷_, map, flatMap, flatten}
 use mathlib.Core.Option.{none, some, Option·none-ne-some, Option·some-injective}
-use lib.Dec.{T}
+use lib.Dec.{T, eqb}
 use lib.ListN.{length, getD, take, List·getD-append}
 use lib.Seq.{take-suc, take-length, getD-append-add}
 use Rattle.model.specs.Lists.{At, elem, lowest}
 use Rattle.model.specs.Refusal.{passed, refusalOf}
-use Rattle.model.specs.TransitionSystem.{Transition}
+use Rattle.model.specs.TransitionSystem.{Transition, TransitionSystem}
 use Rattle.model.specs.Machine.{Place, Machine, duplicateState}
 use Rattle.model.specs.Machine as M
 use Rattle.model.specs.Text.{Input, system, Limits, nameAt, read, write}
@@ -32,7 +32,7 @@ use Rattle.reader.proofs.MachineSection.{rowOf, length-rows}
 -- ---- marks as options
 
 -- a state that is listed has the number of a place
-place-below : (ps : List Place) (x : ℕ) → T (elem x (flatten ps)) → M.placeIn ps x < length ps
+pub place-below : (ps : List Place) (x : ℕ) → T (elem x (flatten ps)) → M.placeIn ps x < length ps
 unfolding M.placeIn
 place-below ps x t = let h = home ps x t in index-below (elem x) ps (exists-intro (elem x) ps (h .place) (h .listed) (h .holds))
 
@@ -43,6 +43,23 @@ place-option ps x h = go (dec (elem x (flatten ps)))
     go : T (elem x (flatten ps)) ⊎ T (not (elem x (flatten ps))) → orNone 255 (placeMark ps x) ≡ cond (elem x (flatten ps)) (some (M.placeIn ps x)) none
     go (inl t) = rw (T-true (elem x (flatten ps)) t, ne-eqb (M.placeIn ps x) 255 (λ e. omega (arith, place-below ps x t)))
     go (inr t) = rw (T-false (elem x (flatten ps)) t)
+
+-- read back: an entry that is not the mark is the number itself
+option-entry : (mark x z : ℕ) → orNone mark x ≡ some z → x ≡ z
+unfolding orNone
+option-entry mark x z e = go (eqb x mark) e
+  where
+    go : (b : Bool) → cond b none (some x) ≡ some z → x ≡ z
+    go true q = absurd (Option·none-ne-some z q)
+    go false q = Option·some-injective x z q
+
+-- of a state that the machine lists the row has the number of its place
+pub placed-at :
+    {ts : TransitionSystem} {p : Tables} {k : ℕ} {m : Machine} → MachineTold ts p k m → (x : ℕ) → x < 256 → T (elem x (flatten (m .places)))
+    → entry (p .place) (k * 256 + x) ≡ M.placeOf m x
+unfolding placeAt
+placed-at {p = p} {k} {m} told x h t =
+    option-entry 255 (entry (p .place) (k * 256 + x)) (M.placeOf m x) (told .place x h ∙ rw (T-true (elem x (flatten (m .places))) t))
 
 state-option : (f : ℕ → Bool) (n : ℕ) → n ≤ 256 → orNone 256 (orNoState (lowest f n)) ≡ lowest f n
 unfolding orNone orNoState

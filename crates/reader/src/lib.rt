@@ -142,11 +142,18 @@ fn distinct_names<'a>(
     true
 }
 
-fn narrow(x: usize) -> u8
+// A number as an entry of a row, and an entry as a number.
+pub fn narrow(x: usize) -> u8
     requires { ⌜ x < 256 ⌝ }
     ensures { λ r. ⌜ r ≡ x ⌝ }
 {
     x as u8
+}
+
+pub fn wide(x: u8) -> usize
+    ensures { λ r. ⌜ (r ≡ x) × (r < 256) ⌝ }
+{
+    x as usize
 }
 
 // States a and b are below n, and event e below m.

@@ -25,9 +25,9 @@ use Rattle.reader.specs.declared.Verdict.the-variants.{Refused, Passed}
 use Rattle.reader.specs.Tables.{verdictRefusal}
 use Rattle.reader.specs.Told.{entry, below, systemOf, MachineTold, MachinesTold}
 use Rattle.reader.specs.Bounded.{Bounded}
+use Rattle.reader.proofs.Searches.{below-in, below-out}
 use Rattle.regions.specs.Moves.{moveAt, MoveRows, MovesTold}
 use Rattle.regions.specs.Crossings.{Scannable, Scanned, EarlierKept}
-use Rattle.regions.proofs.Searching.{below-found, below-none}
 use Rattle.regions.proofs.Marks.{twice-found, twice-none, unplaced-search, scannable}
 
 -- the contract
@@ -130,7 +130,7 @@ pub uncovered-stop : {p : Tables} {k x : ℕ} {pre post pre2 post2 : List ℕ} �
     → Answer p (Refused (C.UncoveredState k x)) pre2 post2
 uncovered-stop {p} {k} {x} s h =
     stopped (s .before) (s .here) _
-    (λ m t. refused-9 (systemOf p) k m x (twice-none t (s .single)) (sym (unplaced-search t (s .bounded)) ∙ sym (s .search) ∙ below-found (p .states) x h))
+    (λ m t. refused-9 (systemOf p) k m x (twice-none t (s .single)) (sym (unplaced-search t (s .bounded)) ∙ sym (s .search) ∙ below-in (p .states) x h))
 
 -- past 9, and the scan for 10 has come to e
 pub record Crossed (p : Tables) (k x e : ℕ) (pre post pre2 post2 : List ℕ) : Type 0 where
@@ -144,7 +144,7 @@ module _ {p : Tables} {k x e : ℕ} {pre post pre2 post2 : List ℕ} (s : Crosse
   once m t = twice-none t (s .sought .single)
 
   all : Every p k (λ m. unplacedState (systemOf p) m ≡ none)
-  all m t = sym (unplaced-search t (s .sought .bounded)) ∙ sym (s .sought .search) ∙ below-none (p .states) x (s .covered)
+  all m t = sym (unplaced-search t (s .sought .bounded)) ∙ sym (s .sought .search) ∙ below-out (p .states) x (s .covered)
 
   scanned : Every p k (λ m. Scanned (systemOf p) m k pre2 post2 e)
   scanned m t = s .scan m (scannable t (s .sought .bounded) (once m t) (all m t) (s .sought .here))
@@ -153,13 +153,13 @@ module _ {p : Tables} {k x e : ℕ} {pre post pre2 post2 : List ℕ} (s : Crosse
   unfolding systemOf
   region-stop h =
       stopped (s .sought .before) (s .sought .here) _
-      (λ m t. refused-10 (systemOf p) k m e (once m t) (all m t) (sym (scanned m t .event) ∙ below-found (p .events) e h))
+      (λ m t. refused-10 (systemOf p) k m e (once m t) (all m t) (sym (scanned m t .event) ∙ below-in (p .events) e h))
 
   pub check-more : p .events ≤ e → Checking p (k + 1) pre2 post2
   unfolding systemOf
   check-more h =
       passing (s .sought .before) (s .sought .here) (s .kept) (s .sought .bounded)
       (λ m t. (
-        clear (systemOf p) k m (once m t) (all m t) (sym (scanned m t .event) ∙ below-none (p .events) e h),
+        clear (systemOf p) k m (once m t) (all m t) (sym (scanned m t .event) ∙ below-out (p .events) e h),
         λ d l. scanned m t .moves d (omega arith),
       ))

@@ -1,47 +1,21 @@
 -- The rows' crossings are those of the machine that the rows give: so what the code compares in the rows tells whether an event is uniform, and its move.
-use Prim.Native.Nat.{ℕ, zero, suc, _+_, _*_, _<_}
-use native.Mathlib.Omega.{arith}
+use Prim.Native.Nat.{ℕ, _+_, _*_, _<_}
 use mathlib.Core.Path.{_≡_, ap, sym, _∙_, subst}
 use mathlib.Core.Logic.{_⊎_, inl, inr}
 use mathlib.Core.Bool.{not, cond}
-use mathlib.Core.List.{List, [], _∷_, List·Memᴰ, List·Memᴰ·head, Memᴰ·append-left, Memᴰ·append-right, List·Memᴰ·append-cases, List·Memᴰ·eq-of-singleton}
+use mathlib.Core.List.{List, List·Memᴰ}
 use mathlib.Core.Option.{Option, none, some}
 use lib.Dec.{T, eqb, ltb}
 use borrow.Author.Tests.{lt-ltb}
 use Rattle.model.specs.Lists.{every}
 use Rattle.model.specs.TransitionSystem.{Transition, TransitionSystem}
 use Rattle.model.specs.Machine.{Machine, Move, placeOf, move, uniform}
-use Rattle.model.proofs.Laws.{dec, T-true, T-false, contra, not-T, below-suc}
-use Rattle.reader.specs.Told.{entry, firstTransitions}
+use Rattle.model.proofs.Laws.{dec, T-true, T-false, contra, not-T}
+use Rattle.reader.specs.Told.{entry, transitionAt}
+use Rattle.reader.proofs.Fronts.{at-listed, front-member}
 use Rattle.regions.specs.Moves.{moveAt}
 use Rattle.regions.specs.Crossings.{crossingAt, agreeing, preMark, Scannable}
 use Rattle.regions.proofs.Alike.{Alike, agreeing-alike, alike-agreeing, through, Level, uniform-alike, level-move}
-
--- transition k of three rows
-abbrev pub transitionAt : List ℕ → List ℕ → List ℕ → ℕ → Transition
-transitionAt source event target k = record { source = entry source k; event = entry event k; target = entry target k }
-
-module _ (source event target : List ℕ) where
-  at-listed : (n k : ℕ) → k < n → List·Memᴰ (transitionAt source event target k) (firstTransitions source event target n)
-  unfolding firstTransitions
-  at-listed zero k l = absurd (omega arith)
-  at-listed (suc n) k l = go (below-suc k n l) (at-listed n k)
-    where
-      go : (k < n) ⊎ (k ≡ n) → (k < n → List·Memᴰ (transitionAt source event target k) (firstTransitions source event target n))
-          → List·Memᴰ (transitionAt source event target k) (firstTransitions source event target (suc n))
-      go (inl b) ih = Memᴰ·append-left (transitionAt source event target n ∷ []) (ih b)
-      go (inr q) ih = Memᴰ·append-right (firstTransitions source event target n) (List·Memᴰ·head (ap (transitionAt source event target) q))
-
-  listed-at : (n : ℕ) (t : Transition) → List·Memᴰ t (firstTransitions source event target n) → (k : ℕ) × (k < n) × (t ≡ transitionAt source event target k)
-  unfolding firstTransitions
-  listed-at zero t m = elim m [ ]
-  listed-at (suc n) t m = go (List·Memᴰ·append-cases (firstTransitions source event target n) m) (listed-at n t)
-    where
-      go : List·Memᴰ t (firstTransitions source event target n) ⊎ List·Memᴰ t (transitionAt source event target n ∷ [])
-          → (List·Memᴰ t (firstTransitions source event target n) → (k : ℕ) × (k < n) × (t ≡ transitionAt source event target k))
-          → (k : ℕ) × (k < suc n) × (t ≡ transitionAt source event target k)
-      go (inl b) ih = let w = ih b in (w .0, omega (arith, w .1), w .2)
-      go (inr b) ih = (n, omega arith, List·Memᴰ·eq-of-singleton b)
 
 module _ (ts : TransitionSystem) (mach : Machine) (m : ℕ) (source event target place : List ℕ) (n : ℕ) (s : Scannable ts mach m source event target place n) where
   here : (k : ℕ) → k < n → List·Memᴰ (transitionAt source event target k) (ts .transitions)
@@ -68,7 +42,7 @@ module _ (ts : TransitionSystem) (mach : Machine) (m : ℕ) (source event target
     where
       alike : (u : Transition) → List·Memᴰ u (ts .transitions) → u .event ≡ e → Alike (through mach (transitionAt source event target f)) (through mach u)
       alike u i r =
-          let w = listed-at source event target n u (rw (s .transitions) at i) in
+          let w = front-member source event target n u (rw (s .transitions) at i) in
           let v = alike-at f (w .0) l (w .1) (h (w .0) (w .1) (sym (ap (λ (t : Transition). t .event) (w .2)) ∙ r)) in
           subst (λ (t : Transition). Alike (through mach (transitionAt source event target f)) (through mach t)) (sym (w .2)) v
 

@@ -1,24 +1,14 @@
 -- The chains of transitions, made from the last transition to the first, and a walk along them.
 use Prim.Native.Nat.{ℕ, suc, _-_, _<_, _≤_}
+use native.Mathlib.Decide.{ℕ-discrete}
 use native.Mathlib.Omega.{arith}
 use borrow.Author.Tests.{eq-eqb, ne-eqb}
 use mathlib.Core.Path.{_≡_, ap, sym, _∙_}
-use mathlib.Core.Logic.{_⊎_, inl, inr}
-use mathlib.Core.Bool.{not}
 use mathlib.Core.List.{List}
-use lib.Dec.{T, eqb, eqb→eq}
 use lib.ListN.{length, set, replicate, length-set, length-replicate, getD-replicate}
 use lib.Seq.{getD-set-same, getD-set-other}
-use Rattle.model.proofs.Laws.{dec, contra, eqb-of}
 use Rattle.reader.specs.Told.{entry}
 use Rattle.regions.specs.Indexed.{nextIn, nextOf, Indexed}
-
-equal : (a b : ℕ) → (a ≡ b) ⊎ (¬ (a ≡ b))
-equal a b = go (dec (eqb a b))
-  where
-    go : T (eqb a b) ⊎ T (not (eqb a b)) → (a ≡ b) ⊎ (¬ (a ≡ b))
-    go (inl t) = inl (eqb→eq a b t)
-    go (inr t) = inr (λ q. contra (eqb a b) t (eqb-of a b q))
 
 module _ (event : List ℕ) (n e k : ℕ) where
   next-end : n ≤ k → nextOf event n e k ≡ k
@@ -60,21 +50,21 @@ index-more {event} {first} {next} {n} {k} {j} {e} {r} i most q at low here =
       most = omega (arith, i .most);
       first-size = length-set first e r ∙ i .first-size;
       next-size = length-set next j (entry first e) ∙ i .next-size;
-      starts = λ d h. start d h (equal d e);
-      follows = λ l h b. follow l h b (equal l j);
+      starts = λ d h. start d h (ℕ-discrete d e);
+      follows = λ l h b. follow l h b (ℕ-discrete l j);
     }
   where
-    start : (d : ℕ) → d < 64 → (d ≡ e) ⊎ (¬ (d ≡ e)) → entry (set first e r) d ≡ nextOf event n d j
-    start d h (inl s) =
+    start : (d : ℕ) → d < 64 → Dec (d ≡ e) → entry (set first e r) d ≡ nextOf event n d j
+    start d h (yes s) =
         rw (s, getD-set-same first e r 0 (omega (arith, i .first-size))) (here ∙ sym (next-here event n e j (omega (arith, i .most)) (sym at)))
-    start d h (inr s) =
+    start d h (no s) =
         getD-set-other first e d r 0 s
         ∙ i .starts d h
         ∙ rw (← q) (sym (next-past event n d j (omega (arith, i .most)) (λ w. s (sym w ∙ sym at))))
 
-    follow : (l : ℕ) → j ≤ l → l < n → (l ≡ j) ⊎ (¬ (l ≡ j)) → entry (set next j (entry first e)) l ≡ nextOf event n (entry event l) (suc l)
-    follow l h b (inl s) = rw (s, getD-set-same next j (entry first e) 0 (omega (arith, i .next-size)), ← at, q) (i .starts e low)
-    follow l h b (inr s) = getD-set-other next j l (entry first e) 0 s ∙ i .follows l (omega arith) b
+    follow : (l : ℕ) → j ≤ l → l < n → Dec (l ≡ j) → entry (set next j (entry first e)) l ≡ nextOf event n (entry event l) (suc l)
+    follow l h b (yes s) = rw (s, getD-set-same next j (entry first e) 0 (omega (arith, i .next-size)), ← at, q) (i .starts e low)
+    follow l h b (no s) = getD-set-other next j l (entry first e) 0 s ∙ i .follows l (omega arith) b
 
 pub index-all : {event first next : List ℕ} {n : ℕ} → Indexing event n 0 first next → Indexed event n first next
 index-all i =

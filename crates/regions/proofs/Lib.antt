@@ -3,11 +3,8 @@
 -- how transitions lead through a machine, and events whose transitions lead alike
 pub mod Agreeing
 pub mod Alike
--- a search in rising order
-pub mod Searching
--- the chains of transitions: how they are made, that each has a beginning and an end, and the walk along one
+-- the chains of transitions: how they are made, what stands between one transition and the next, and that each has a beginning and an end
 pub mod Indexing
-pub mod Chain
 pub mod Chains
 -- what the rows tell of a machine: 8 and 9; the crossings of its transitions
 pub mod Marks

@@ -1,53 +1,42 @@
 -- What the marks in a machine's rows say: 8 and 9, and past them the place of each state.
-use Prim.Native.Nat.{ℕ, zero, suc, _+_, _*_, _<_}
+use Prim.Native.Nat.{ℕ, _+_, _*_, _<_, _≤_}
 use native.Mathlib.Omega.{arith}
 use borrow.Author.Tests.{eq-eqb, ne-eqb}
 use mathlib.Core.Path.{_≡_, refl, sym, _∙_}
 use mathlib.Core.Bool.{Bool, true, false, not, cond}
 use mathlib.Core.List.{List, flatten}
-use mathlib.Core.Option.{none, some, Option·none-ne-some, Option·some-ne-none, Option·some-injective}
-use lib.Dec.{T, eqb, nltb→le}
-use lib.ListN.{length}
+use mathlib.Core.Option.{none, some, Option·none-ne-some, Option·some-ne-none}
+use lib.Dec.{eqb, nltb→le}
 use Rattle.model.specs.Lists.{elem, lowest}
-use Rattle.model.specs.Machine.{Place, Machine, placeIn, placeOf, duplicateState, unplacedState}
-use Rattle.model.proofs.Laws.{not-not, exists-intro, lowest-none}
-use Rattle.model.proofs.Positions.{index-below}
-use Rattle.model.proofs.Places.{Placed, home}
+use Rattle.model.specs.Machine.{Machine, placeOf, duplicateState, unplacedState}
+use Rattle.model.proofs.Laws.{not-not, neqb, eqb-of, lowest-none}
+use Rattle.model.proofs.Places.{Placed}
 use Rattle.reader.specs.declared.Tables.{Tables}
-use Rattle.reader.specs.Told.{entry, systemOf, orNone, placeAt, duplicateAt, MachineTold}
+use Rattle.reader.specs.Told.{entry, below, systemOf, orNone, placeAt, duplicateAt, MachineTold}
 use Rattle.reader.specs.Bounded.{Bounded}
+use Rattle.reader.proofs.Searches.{Upto, searched, lowest-same}
+use Rattle.reader.proofs.Fronts.{within-tables}
+use Rattle.reader.proofs.Telling.{place-below, placed-at}
 use Rattle.regions.specs.Crossings.{Scannable}
-use Rattle.regions.proofs.Chains.{within}
 
-lowest-same : (f g : ℕ → Bool) (n : ℕ) → ((x : ℕ) → x < n → f x ≡ g x) → lowest f n ≡ lowest g n
-unfolding lowest
-lowest-same f g zero h = refl
-lowest-same f g (suc n) h = rw (lowest-same f g n (λ x l. h x (omega arith)), h n (omega arith))
+-- the search for an entry 255, from a position on, stops at one or at the end
+pub unplaced-first : (row : List ℕ) (from : ℕ) {n x : ℕ} → Upto (λ j. ¬ (entry row (from + j) ≡ 255)) n x → (x < n → entry row (from + x) ≡ 255)
+    → (x ≤ n) × (below n x ≡ lowest (λ j. eqb (entry row (from + j)) 255) n)
+unplaced-first row from {n} {x} u here = (
+  u .most,
+  searched _ n x (u .most) (λ j l. neqb (entry row (from + j)) 255 (u .each j l)) (λ l. eqb-of (entry row (from + x)) 255 (here l)),
+)
 
 -- an entry that is 255 or the number of a place
-module _ (y z : ℕ) where
-  unplaced-test : (b : Bool) → orNone 255 y ≡ cond b (some z) none → eqb y 255 ≡ not b
-  unfolding orNone
-  unplaced-test b q = go (eqb y 255) b q
-    where
-      go : (e b : Bool) → cond e none (some y) ≡ cond b (some z) none → e ≡ not b
-      go true true q = absurd (Option·none-ne-some z q)
-      go true false q = refl
-      go false true q = refl
-      go false false q = absurd (Option·some-ne-none y q)
-
-  placed-value : (b : Bool) → orNone 255 y ≡ cond b (some z) none → T b → y ≡ z
-  unfolding orNone
-  placed-value b q t = go (eqb y 255) b q t
-    where
-      go : (e b : Bool) → cond e none (some y) ≡ cond b (some z) none → T b → y ≡ z
-      go true true q t = absurd (Option·none-ne-some z q)
-      go false true q t = Option·some-injective y z q
-      go e false q t = absurd t
-
-place-below : (ps : List Place) (x : ℕ) → T (elem x (flatten ps)) → placeIn ps x < length ps
-unfolding placeIn
-place-below ps x t = let h = home ps x t in index-below (elem x) ps (exists-intro (elem x) ps (h .place) (h .listed) (h .holds))
+unplaced-test : (y z : ℕ) (b : Bool) → orNone 255 y ≡ cond b (some z) none → eqb y 255 ≡ not b
+unfolding orNone
+unplaced-test y z b q = go (eqb y 255) b q
+  where
+    go : (e b : Bool) → cond e none (some y) ≡ cond b (some z) none → e ≡ not b
+    go true true q = absurd (Option·none-ne-some z q)
+    go true false q = refl
+    go false true q = refl
+    go false false q = absurd (Option·some-ne-none y q)
 
 module _ {p : Tables} {k : ℕ} {m : Machine} (told : MachineTold (systemOf p) p k m) where
   pub twice-found : ¬ (entry (p .duplicate) k ≡ 256) → duplicateState (systemOf p) m ≡ some (entry (p .duplicate) k)
@@ -75,13 +64,12 @@ module _ {p : Tables} {k : ℕ} {m : Machine} (told : MachineTold (systemOf p) p
           }
 
       pub scannable : k < p .machines → Scannable (systemOf p) m k (p .source) (p .event) (p .target) (p .place) (p .transitions)
-      unfolding systemOf placeAt
+      unfolding systemOf
       scannable h =
           record {
-            within = within p b;
+            within = within-tables p b;
             transitions = refl;
             placed = placed;
-            told = λ x l.
-                placed-value (entry (p .place) (k * 256 + x)) (placeOf m x) (elem x (flatten (m .places))) (told .place x (omega (arith, b .states))) (placed .placed x l);
+            told = λ x l. placed-at told x (omega (arith, b .states)) (placed .placed x l);
             low = λ x l. omega (arith, place-below (m .places) x (placed .placed x l), told .places, b .sizes k h);
           }

@@ -1,28 +1,28 @@
 -- What the scan of a machine has found so far. The code has no row of events, so what speaks of one holds for each that the chains are made from.
 use Prim.Native.Nat.{ℕ, suc, _+_, _*_, _<_, _≤_}
 use native.Mathlib.Omega.{arith}
-use mathlib.Core.Path.{_≡_, refl, ap, sym, _∙_, subst}
+use mathlib.Core.Path.{_≡_, refl, ap, _∙_, subst}
 use mathlib.Core.Logic.{_⊎_, inl, inr}
 use mathlib.Core.Bool.{Bool, true, false, not}
 use mathlib.Core.List.{List}
-use mathlib.Core.Option.{some}
 use lib.Dec.{T}
 use lib.ListN.{set, length-set}
 use lib.Seq.{getD-set-same, getD-set-other}
 use borrow.Author.Count.{below-none, below-more}
-use borrow.Author.Tests.{lt-ltb, le-ltb, not-false}
-use Rattle.model.specs.Lists.{every, lowest}
+use borrow.Author.Tests.{not-false}
+use Rattle.model.specs.Lists.{every}
 use Rattle.model.specs.TransitionSystem.{TransitionSystem}
 use Rattle.model.specs.Machine.{Machine, uniform, nonuniformEvent}
-use Rattle.model.proofs.Laws.{Lowest, found, absent, lowest-view, none-lowest, not-T, contra, order}
-use Rattle.reader.specs.Told.{entry, below}
+use Rattle.model.proofs.Laws.{not-T, contra, order}
+use Rattle.reader.specs.Told.{entry, transitionAt}
+use Rattle.reader.proofs.Searches.{searched}
 use Rattle.regions.specs.declared.Crossing.{Crossing}
 use Rattle.regions.specs.Moves.{moveAt, MoveRows}
-use Rattle.regions.specs.Indexed.{nextOf, Indexed, Chained}
+use Rattle.regions.specs.Indexed.{Indexed, Chained}
 use Rattle.regions.specs.Crossings.{crossingAt, agreeing, preMark, Scannable, Scanned, EarlierKept}
 use Rattle.regions.proofs.Alike.{Level, level-uniform}
-use Rattle.regions.proofs.Chain.{Next, next-of}
-use Rattle.regions.proofs.Crossed.{transitionAt, rows-level, rows-uneven, rows-move}
+use Rattle.regions.proofs.Chains.{Next, first-next, after-next}
+use Rattle.regions.proofs.Crossed.{rows-level, rows-uneven, rows-move}
 
 -- the transitions of the event before k agree with the crossing, and at k stands one of the event
 pub record Walk (source target place first next : List ℕ) (n m e : ℕ) (one : Crossing) (k : ℕ) : Type 0 where
@@ -37,7 +37,7 @@ module _ {source target place first next : List ℕ} {n m e : ℕ} {one : Crossi
   }
     where
       start : (event : List ℕ) → Indexed event n first next → Next event e 0 n k
-      start event x = subst (λ (z : ℕ). Next event e 0 n z) (sym (x .starts e l) ∙ sym q) (next-of event n e 0 (omega arith))
+      start event x = rw q (first-next x e l)
 
   pub walk-next :
       {k : ℕ} (k2 : ℕ) (other : Crossing) (r : Bool) → k < n → k2 ≡ entry next k → other ≡ crossingAt source target place m k → r ≡ agreeing one other → not r ≡ false
@@ -45,9 +45,7 @@ module _ {source target place first next : List ℕ} {n m e : ℕ} {one : Crossi
   walk-next {k} k2 other r l q oq rq f w = record { passed = passed; stands = λ event x. after event x .stands }
     where
       after : (event : List ℕ) → Indexed event n first next → Next event e (suc k) n k2
-      after event x =
-          subst (λ (z : ℕ). Next event e (suc k) n z) (ap (λ (d : ℕ). nextOf event n d (suc k)) (sym (w .stands event x l)) ∙ sym (x .follows k l) ∙ sym q)
-          (next-of event n e (suc k) l)
+      after event x = subst (λ (d : ℕ). Next event d (suc k) n k2) (w .stands event x l) (rw q (after-next x k l))
 
       passed : (event : List ℕ) → Indexed event n first next → (j : ℕ) → j < k2 → j < n → entry event j ≡ e → T (agreeing one (crossingAt source target place m j))
       passed event x j a b h = at (order j k) (order k j)
@@ -96,40 +94,27 @@ module _ {source target place first next : List ℕ} {n m : ℕ} where
 module _ {source target place first next : List ℕ} {n m events : ℕ} {pre₀ post₀ pre post : List ℕ} {e : ℕ} (le : events ≤ 64) (ch : Chained n events first next) (so : Sofar source target place first next n m pre₀ post₀ pre post e) (ed : e ≤ events)
     (event : List ℕ) (ts : TransitionSystem) (mach : Machine) (i : Indexed event n first next) (s : Scannable ts mach m source event target place n) (q : events ≡ ts .events) where
   begins : (d : ℕ) → d < events → entry event (entry first d) ≡ d
-  begins d l = subst (λ (z : ℕ). Next event d 0 n z) (sym (i .starts d (omega arith))) (next-of event n d 0 (omega arith)) .stands (ch .begins d l)
+  begins d l = first-next i d (omega arith) .stands (ch .begins d l)
 
   level : (d : ℕ) → d < e → Level ts mach d (transitionAt source event target (entry first d))
   level d l = rows-level ts mach m source event target place n s d (entry first d) (ch .begins d (omega arith)) (begins d (omega arith)) (so .alike d l event i)
 
-  answered : below (ts .events) e ≡ nonuniformEvent ts mach → Scanned ts mach m pre post e
-  answered h = record {
-    most = omega arith;
-    event = h;
-    moves = λ d l. rows-move ts mach m source event target place n s pre post d (entry first d) (ch .begins d (omega arith)) (level d l) (so .pres d l) (so .posts d l);
-  }
-
   even : (d : ℕ) → d < e → T (not (not (every (uniform ts d) (mach .places))))
   even d l = not-T (not (every (uniform ts d) (mach .places))) (λ x. contra (every (uniform ts d) (mach .places)) x (level-uniform ts mach (s .within) (s .placed) d (transitionAt source event target (entry first d)) (level d l)))
 
+  answered : (e < ts .events → T (not (every (uniform ts e) (mach .places)))) → Scanned ts mach m pre post e
+  unfolding nonuniformEvent
+  answered here = record {
+    most = omega arith;
+    event = searched (λ d. not (every (uniform ts d) (mach .places))) (ts .events) e (omega arith) even here;
+    moves = λ d l. rows-move ts mach m source event target place n s pre post d (entry first d) (ch .begins d (omega arith)) (level d l) (so .pres d l) (so .posts d l);
+  }
+
   pub scanned-all : events ≤ e → Scanned ts mach m pre post e
-  unfolding below nonuniformEvent
-  scanned-all l =
-      answered (rw (le-ltb e (ts .events) (omega arith)) (sym (none-lowest (λ d. not (every (uniform ts d) (mach .places))) (ts .events) (λ d b. even d (omega arith)))))
+  scanned-all l = answered (λ b. absurd (omega arith))
 
   pub scanned-uneven :
       (one other : Crossing) (r : Bool) (k : ℕ) → e < events → k < n → one ≡ crossingAt source target place m (entry first e) → other ≡ crossingAt source target place m k
       → r ≡ agreeing one other → not r ≡ true → Walk source target place first next n m e one k → Scanned ts mach m pre post e
-  unfolding below nonuniformEvent
-  scanned-uneven one other r k l lk p oq rq f w = answered (rw (lt-ltb e (ts .events) (omega arith)) (sym (go (lowest-view (λ d. not (every (uniform ts d) (mach .places))) (ts .events)))))
-    where
-      bad : T (not (every (uniform ts e) (mach .places)))
-      bad = rows-uneven ts mach m source event target place n s e (entry first e) k (ch .begins e l) lk (begins e l) (w .stands event i lk) (rw (← p, ← oq, ← rq, f) tt)
-
-      go : Lowest (λ d. not (every (uniform ts d) (mach .places))) (ts .events) → lowest (λ d. not (every (uniform ts d) (mach .places))) (ts .events) ≡ some e
-      go (absent a b) = absurd (contra (not (every (uniform ts e) (mach .places))) (b e (omega arith)) bad)
-      go (found j a b t f) = at (order j e) (order e j)
-        where
-          at : (j < e) ⊎ (e ≤ j) → (e < j) ⊎ (j ≤ e) → lowest (λ d. not (every (uniform ts d) (mach .places))) (ts .events) ≡ some e
-          at (inl x) y = absurd (contra (not (every (uniform ts j) (mach .places))) (even j x) t)
-          at (inr x) (inl y) = absurd (contra (not (every (uniform ts e) (mach .places))) (f e y) bad)
-          at (inr x) (inr y) = a ∙ ap some (omega arith)
+  scanned-uneven one other r k l lk p oq rq f w =
+      answered (λ _. rows-uneven ts mach m source event target place n s e (entry first e) k (ch .begins e l) lk (begins e l) (w .stands event i lk) (rw (← p, ← oq, ← rq, f) tt))

@@ -22,15 +22,10 @@ use model::MAX_TRANSITIONS;
 use model::Refusal;
 use reader::Tables;
 use reader::Verdict;
+use reader::wide;
 
 // In the row of pre-places: the event is not on the machine.
 pub const NOT_ON: u8 = 255;
-
-fn wide(x: u8) -> usize
-    ensures { λ r. ⌜ (r ≡ x) × (r < 256) ⌝ }
-{
-    x as usize
-}
 
 fn position(x: u16) -> usize
     ensures { λ r. ⌜ r ≡ x ⌝ }

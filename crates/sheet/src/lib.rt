@@ -15,12 +15,7 @@ use model::MAX_EVENTS;
 use model::MAX_PLACES;
 use model::MAX_STATES;
 use reader::Tables;
-
-fn wide(x: u8) -> usize
-    ensures { λ r. ⌜ (r ≡ x) × (r < 256) ⌝ }
-{
-    x as usize
-}
+use reader::wide;
 
 // How many digits a number up to 999 has.
 fn figure_len(n: usize) -> usize

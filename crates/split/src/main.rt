@@ -1,25 +1,28 @@
 // Reads a text from standard input and writes its sheet, or why it is refused.
+ghost use mathlib.Core.Path.{_≡_};
+ghost use Prim.Native.Nat.{_≤_};
+ghost use lib.ListN.{length, take};
+ghost use Rattle.model.specs.Services.{printed};
 use libc::STDIN_FILENO;
 use libc::STDOUT_FILENO;
-use model::Refusal;
+use sheet::write_refusal;
 use splitter::Answer;
+use splitter::check;
+use splitter::numbers;
 
-fn put(word: &[u8]) {
-    io::write_all(STDOUT_FILENO, word);
-}
-
-fn put_number(n: usize) {
-    put(b" ");
-    io::print_decimal(STDOUT_FILENO, n as u64);
-}
-
-fn put_refusal(why: Refusal) {
-    let row = splitter::numbers(why);
-    put(b"(refused");
-    put_number(row.number);
-    put_number(row.detail);
-    put_number(row.second);
-    put(b")\n");
+// The sheet, or the refusal line, at the beginning of the buffer; how many bytes it has.
+fn answer(text: &[u8], out: &mut [u8]) -> usize
+    requires { ⌜ length (now out) ≡ 32768 ⌝ }
+    ensures { λ r. ⌜ r ≤ 32768 ⌝ }
+    ensures { λ r. ⌜ take r (now (out .exit)) ≡ printed (now (text .entry)) ⌝ }
+{
+    match check(text, out) {
+        Answer::Refused(why) => {
+            let row = numbers(why);
+            write_refusal(row.number, row.detail, row.second, out)
+        }
+        Answer::Accepted { size } => size,
+    }
 }
 
 // One byte more than a text may have is read, so that a longer one is refused.
@@ -27,8 +30,6 @@ fn main() {
     let mut text = [0u8; 32769];
     let n = io::read_full(STDIN_FILENO, &mut text);
     let mut out = [0u8; 32768];
-    match splitter::check(&text[..n], &mut out) {
-        Answer::Refused(why) => put_refusal(why),
-        Answer::Accepted { size } => put(&out[..size]),
-    }
+    let size = answer(&text[..n], &mut out);
+    io::write_all(STDOUT_FILENO, &out[..size]);
 }

@@ -12,7 +12,6 @@ use Rattle.model.specs.Machine.{machinesRefusal, coverRefusal}
 use Rattle.model.specs.Text.{Input, system, read}
 use Rattle.model.specs.Sheet.{sheet}
 use Rattle.model.specs.Services.{asFarAs7, asFarAs10, asFarAs12, lend, check}
-use Rattle.model.proofs.Lending.{checking}
 use Rattle.checker.specs.Order.{refusalTo12}
 
 -- what passed, if nothing is refused
@@ -73,7 +72,3 @@ module _ (s out : List ℕ) where
       pub accepted : length (sheet v) ≤ length out → Gives (passed (length (sheet v))) (sheet v ++ drop (length (sheet v)) out)
       unfolding lend
       accepted l = rw (lends-sheet, le-leb (length (sheet v)) (length out) l) (refl, refl)
-
--- an accepted split's sheet is within the buffer
-pub accepted-fits : (s out : List ℕ) (n : ℕ) → passed n ≡ check s out .answer → n ≤ length out
-accepted-fits s out n e = checking s out .accepts n .0 (sym e) .3

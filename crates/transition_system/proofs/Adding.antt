@@ -1,8 +1,8 @@
 -- One transition more: what 4 and 5 say of it, and of the sets that it goes into.
 use Prim.Native.Nat.{ℕ, suc, _+_, _<_}
 use native.Mathlib.Decide.{ℕ-discrete}
-use mathlib.Core.Path.{_≡_, refl, sym, ap, _∙_}
-use mathlib.Core.Bool.{Bool, true, false, _&&_, _||_}
+use mathlib.Core.Path.{_≡_, sym, ap, _∙_}
+use mathlib.Core.Bool.{Bool, true, false, and-comm}
 use mathlib.Core.List.{List, [], _∷_, _++_}
 use mathlib.Core.Option.{none, Option·some-ne-none}
 use borrow.Author.Tests.{eq-eqb, ne-eqb}
@@ -15,37 +15,18 @@ use Rattle.reader.specs.declared.Verdict.{Verdict}
 use Rattle.reader.specs.declared.Verdict.the-variants.{Refused, Passed}
 use Rattle.reader.specs.Tables.{verdictRefusal}
 use Rattle.reader.specs.Told.{entry, transitionAt, firstTransitions}
+use Rattle.reader.proofs.Fronts.{exists-snoc, front-length}
 use Rattle.state_set.specs.declared.StateSet.{StateSet}
 use Rattle.state_set.specs.Member.{member}
 use Rattle.state_set.specs.Rows.{setAt, memberAt, Inserted}
 use Rattle.transition_system.specs.Sets.{Excitations, Successors, SetsOf, InRows, joins}
-use Rattle.transition_system.proofs.Fronts.{front-length}
 
 -- ---- one transition more in the sets
-or-assoc : (a b c : Bool) → (a || (b || c)) ≡ ((a || b) || c)
-or-assoc true b c = refl
-or-assoc false b c = refl
-
-or-false : (a : Bool) → (a || false) ≡ a
-or-false true = refl
-or-false false = refl
-
-and-comm : (a b : Bool) → (a && b) ≡ (b && a)
-and-comm true true = refl
-and-comm true false = refl
-and-comm false true = refl
-and-comm false false = refl
-
 eqb-comm : (a b : ℕ) → eqb a b ≡ eqb b a
 eqb-comm a b = elim (ℕ-discrete a b) [
   | yes e ↦ eq-eqb a b e ∙ sym (eq-eqb b a (sym e))
   | no n ↦ ne-eqb a b n ∙ sym (ne-eqb b a (λ e. n (sym e)))
 ]
-
-exists-more : {A : Type 0} (f : A → Bool) (xs : List A) (y : A) → exists f (xs ++ (y ∷ [])) ≡ (exists f xs || f y)
-unfolding exists
-exists-more f [] y = or-false (f y)
-exists-more f (x ∷ xs) y = ap (λ (b : Bool). f x || b) (exists-more f xs y) ∙ or-assoc (f x) (exists f xs) (f y)
 
 module _ {ts : List Transition} (t : Transition) {old new : List ℕ} where
   excites-more : Excitations ts old → Inserted (t .event) (t .source) old new → Excitations (ts ++ (t ∷ [])) new
@@ -55,7 +36,7 @@ module _ {ts : List Transition} (t : Transition) {old new : List ℕ} where
       at : (e s : ℕ) → e < 64 → memberAt new e s ≡ exists (leads s e) (ts ++ (t ∷ []))
       at e s l =
           rw (
-            exists-more (leads s e) ts t,
+            exists-snoc (leads s e) ts t,
             i .members e s,
             x .members e s l,
             eqb-comm (t .source) s,
@@ -68,7 +49,7 @@ module _ {ts : List Transition} (t : Transition) {old new : List ℕ} where
   follows-more x i = record { size = i .size ∙ x .size; members = at }
     where
       at : (s u : ℕ) → s < 256 → memberAt new s u ≡ exists (joins s u) (ts ++ (t ∷ []))
-      at s u l = rw (exists-more (joins s u) ts t, i .members s u, x .members s u l, eqb-comm (t .source) s, eqb-comm (t .target) u)
+      at s u l = rw (exists-snoc (joins s u) ts t, i .members s u, x .members s u l, eqb-comm (t .source) s, eqb-comm (t .target) u)
 
 -- ---- what adding transition k of the rows answers
 abbrev Added : List ℕ → List ℕ → List ℕ → ℕ → Verdict → List ℕ → List ℕ → Type 0

@@ -1,7 +1,5 @@
 -- The laws behind the checks 4 to 7.
 
--- the transitions of rows, from the front
-pub mod Fronts
 -- the first transition that leads from a state by an event
 pub mod Leading
 -- one transition more: the sets, and 4 and 5
@@ -10,8 +8,6 @@ pub mod Adding
 pub mod Scanning
 -- 6
 pub mod Unused
--- what reading leaves of the transition system
-pub mod WithinTables
 -- the search for the reached states, turn by turn
 pub mod Worklist
 -- the lowest state that the search leaves out

@@ -12,8 +12,8 @@ use Rattle.reader.specs.declared.Verdict.{Verdict}
 use Rattle.reader.specs.declared.Verdict.the-variants.{Refused, Passed}
 use Rattle.reader.specs.Tables.{verdictRefusal}
 use Rattle.reader.specs.Told.{transitionAt, firstTransitions}
+use Rattle.reader.proofs.Fronts.{front-more, front-rest}
 use Rattle.transition_system.specs.Sets.{SetsOf}
-use Rattle.transition_system.proofs.Fronts.{front-more, front-rest}
 
 orElse-assoc : {A : Type 0} (a b c : Option A) → orElse a (orElse b c) ≡ orElse (orElse a b) c
 unfolding orElse

@@ -1,62 +1,37 @@
 -- The lowest state that is not reached, from a set of those that are.
-use Prim.Native.Nat.{ℕ, zero, suc, _<_, _≤_}
+use Prim.Native.Nat.{ℕ, _<_, _≤_}
 use native.Mathlib.Omega.{arith}
 use mathlib.Core.Path.{_≡_, refl, sym, ap, _∙_}
 use mathlib.Core.Logic.{_⊎_, inl, inr}
 use mathlib.Core.Bool.{Bool, true, false, not, _&&_}
-use mathlib.Core.Option.{Option, none, some}
+use mathlib.Core.Option.{Option}
 use lib.Dec.{T}
-use borrow.Author.Tests.{lt-ltb, le-ltb}
+use borrow.Author.Tests.{lt-ltb}
 use Rattle.model.specs.Lists.{elem, lowest}
 use Rattle.model.specs.TransitionSystem.{TransitionSystem, andThen, unreachableState}
 use Rattle.model.specs.TransitionSystem as M
-use Rattle.model.proofs.Laws.{order, contra, T-true, Lowest, found, absent, lowest-view}
+use Rattle.model.proofs.Laws.{order, T-true, Lowest, found, absent, lowest-view, none-lowest}
 use Rattle.model.proofs.Bounds.{Within}
 use Rattle.model.proofs.Reach.{Leads, here, by, reached-sound, reached-complete}
 use Rattle.state_set.specs.declared.StateSet.{StateSet}
 use Rattle.state_set.specs.Member.{member}
 use Rattle.state_set.proofs.Sets.{fullSet, full-member}
 use Rattle.reader.specs.Told.{below}
+use Rattle.reader.proofs.Searches.{below-out, searched, lowest-same}
 use Rattle.transition_system.specs.Reaches.{Reaches}
-
-pub below-in : (n k : ℕ) → k < n → below n k ≡ some k
-unfolding below
-below-in n k l = rw (lt-ltb k n l)
-
-pub below-out : (n k : ℕ) → n ≤ k → below n k ≡ none
-unfolding below
-below-out n k l = rw (le-ltb k n l)
-
-lowest-same : (f g : ℕ → Bool) (n : ℕ) → ((i : ℕ) → i < n → f i ≡ g i) → lowest f n ≡ lowest g n
-unfolding lowest
-lowest-same f g zero h = refl
-lowest-same f g (suc n) h = rw (lowest-same f g n (λ i l. h i (omega arith)), h n (omega arith))
 
 -- the lowest below n is the lowest below a higher bound, where that is below n
 lowest-under : (f : ℕ → Bool) (n m : ℕ) → n ≤ m → lowest f n ≡ andThen (lowest f m) (below n)
 unfolding andThen
-lowest-under f n m l = go (lowest-view f n) (lowest-view f m)
+lowest-under f n m l = go (lowest-view f m)
   where
-    to : {o : Option ℕ} → lowest f m ≡ o → andThen (lowest f m) (below n) ≡ andThen o (below n)
-    to e = ap (λ (o : Option ℕ). andThen o (below n)) e
-
-    go : Lowest f n → Lowest f m → lowest f n ≡ andThen (lowest f m) (below n)
-    go (found k e b t h) (found j p c u q) = e ∙ ap (λ (x : ℕ). some x) (same (order k j) (order j k)) ∙ sym (to p ∙ below-in n j at)
+    go : Lowest f m → lowest f n ≡ andThen (lowest f m) (below n)
+    go (absent e h) = none-lowest f n (λ i b. h i (omega arith)) ∙ rw e
+    go (found k e b t h) = at (order k n) ∙ rw e
       where
-        same : (k < j) ⊎ (j ≤ k) → (j < k) ⊎ (k ≤ j) → k ≡ j
-        same (inl x) y = absurd (contra (f k) (q k x) t)
-        same (inr x) (inl y) = absurd (contra (f j) (h j y) u)
-        same (inr x) (inr y) = omega arith
-
-        at : j < n
-        at = let e : k ≡ j = same (order k j) (order j k) in omega arith
-    go (found k e b t h) (absent p q) = absurd (contra (f k) (q k (omega arith)) t)
-    go (absent e h) (found j p c u q) = e ∙ sym (to p ∙ below-out n j (high (order j n)))
-      where
-        high : (j < n) ⊎ (n ≤ j) → n ≤ j
-        high (inl x) = absurd (contra (f j) (h j x) u)
-        high (inr x) = x
-    go (absent e h) (absent p q) = e ∙ sym (to p)
+        at : (k < n) ⊎ (n ≤ k) → lowest f n ≡ below n k
+        at (inl c) = sym (searched f n k (omega arith) h (λ _. t))
+        at (inr c) = none-lowest f n (λ i d. h i (omega arith)) ∙ sym (below-out n k c)
 
 T-same : (a b : Bool) → (T a → T b) → (T b → T a) → a ≡ b
 T-same true true f g = refl

@@ -1,19 +1,17 @@
 -- 6: an event has no transition where no state excites it.
-use Prim.Native.Nat.{ℕ, _+_, _<_, _≤_}
-use native.Mathlib.Decide.{decLt}
+use Prim.Native.Nat.{ℕ, _<_, _≤_}
 use native.Mathlib.Omega.{arith}
 use mathlib.Core.Path.{_≡_, sym, ap, _∙_}
 use mathlib.Core.Bool.{Bool, not}
 use mathlib.Core.List.{List}
-use mathlib.Core.Option.{none, some, Option·some-ne-none}
-use borrow.Author.Count.{below-more}
-use borrow.Author.Tests.{lt-ltb, le-ltb}
+use mathlib.Core.Option.{none, Option·some-ne-none}
 use lib.Dec.{T, eqb, eqb-refl}
 use Rattle.model.specs.Lists.{exists, lowest}
 use Rattle.model.specs.TransitionSystem.{Transition, TransitionSystem, leads, unusedEvent}
 use Rattle.model.proofs.Bounds.{Within}
-use Rattle.model.proofs.Laws.{not-T, contra, and-i, and-r, exists-intro, exists-elim, not-exists, Lowest, found, absent, lowest-view, lowest-none, none-lowest}
+use Rattle.model.proofs.Laws.{not-T, contra, and-i, and-r, exists-intro, exists-elim, not-exists, lowest-none, none-lowest}
 use Rattle.reader.specs.Told.{below}
+use Rattle.reader.proofs.Searches.{Upto, searched}
 use Rattle.state_set.specs.declared.StateSet.{StateSet}
 use Rattle.state_set.specs.declared.Found.{Found}
 use Rattle.state_set.specs.declared.Found.the-variants.{Nothing, State}
@@ -21,26 +19,8 @@ use Rattle.state_set.specs.Member.{member, stateFound}
 use Rattle.state_set.specs.Rows.{setAt, memberAt}
 use Rattle.transition_system.specs.Sets.{Excitations}
 
--- what a search from 0 answers that stops at k, below n or at its end
-pub search-stops : (f : ℕ → Bool) (n k : ℕ) → k ≤ n → ((j : ℕ) → j < k → T (not (f j))) → (k < n → T (f k)) → below n k ≡ lowest f n
-unfolding below
-search-stops f n k b o t = go (lowest-view f n)
-  where
-    go : Lowest f n → below n k ≡ lowest f n
-    go (found j e l u h) = let q = same (decLt j k) (decLt k j) in rw (lt-ltb k n (omega arith)) (ap (λ (i : ℕ). some i) q ∙ sym e)
-      where
-        same : Dec (j < k) → Dec (k < j) → k ≡ j
-        same (yes p) q = absurd (contra (f j) (o j p) u)
-        same (no p) (yes q) = absurd (contra (f k) (h k q) (t (omega arith)))
-        same (no p) (no q) = omega arith
-    go (absent e h) = rw (le-ltb k n (last (decLt k n))) (sym e)
-      where
-        last : Dec (k < n) → n ≤ k
-        last (yes p) = absurd (contra (f k) (h k p) (t p))
-        last (no p) = omega arith
-
 -- no state is in the set of e
-abbrev Idle : List ℕ → ℕ → Type 0
+abbrev pub Idle : List ℕ → ℕ → Type 0
 Idle row e = lowest (member (setAt row e)) 256 ≡ none
 
 -- what `load` and `lowest` gave, in that order
@@ -52,18 +32,6 @@ module _ (row : List ℕ) (e : ℕ) {set : StateSet} {r : Found} (p : set ≡ se
   pub state-excites : {s : ℕ} → r ≡ State s → Idle row e → ⊥
   unfolding stateFound
   state-excites n i = Option·some-ne-none _ (ap stateFound (sym n) ∙ q ∙ rw p i)
-
--- of n events those before e are excited
-pub record Excited (row : List ℕ) (n e : ℕ) : Type 0 where
-  pub most : e ≤ n
-  pub others : (j : ℕ) → j < e → Idle row j → ⊥
-
-module _ {row : List ℕ} {n : ℕ} where
-  pub excited-start : Excited row n 0
-  excited-start = record { most = omega arith; others = λ j l h. omega arith }
-
-  pub excited-more : {e : ℕ} → Excited row n e → e < n → (Idle row e → ⊥) → Excited row n (e + 1)
-  excited-more x l o = record { most = omega arith; others = below-more _ _ (x .others) o }
 
 -- the event e has a transition
 abbrev used : TransitionSystem → ℕ → Bool
@@ -89,11 +57,11 @@ module _ (ts : TransitionSystem) {row : List ℕ} (x : Excitations (ts .transiti
       (exists-intro (λ (t : Transition). eqb (t .event) e) (ts .transitions) t m (and-r (eqb (t .source) s) (eqb (t .event) e) v))
 
 -- the search stops at an event that no state excites, or at the end
-pub unused-found : {row : List ℕ} {n e : ℕ} → n ≤ 64 → Excited row n e → (e < n → Idle row e)
+pub unused-found : {row : List ℕ} {n e : ℕ} → n ≤ 64 → Upto (λ j. Idle row j → ⊥) n e → (e < n → Idle row e)
     → (ts : TransitionSystem) → Within ts → ts .states ≤ 256 → ts .events ≡ n → Excitations (ts .transitions) row → below n e ≡ unusedEvent ts
 unfolding unusedEvent
 unused-found {row} {n} {e} h s i ts w b q x =
-    search-stops (λ e. not (used ts e)) n e (s .most)
-    (λ j l. not-T (not (used ts j)) λ u. s .others j l (unused-idle ts x j (omega (arith, s .most)) u))
+    searched (λ e. not (used ts e)) n e (s .most)
+    (λ j l. not-T (not (used ts j)) λ u. s .each j l (unused-idle ts x j (omega (arith, s .most)) u))
     (λ l. idle-unused ts x e (omega arith) w b (i l))
     ∙ ap (lowest (λ e. not (used ts e))) (sym q)

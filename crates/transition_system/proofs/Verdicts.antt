@@ -16,11 +16,11 @@ use Rattle.reader.specs.declared.Verdict.the-variants.{Refused, Passed}
 use Rattle.reader.specs.Bounded.{Bounded}
 use Rattle.reader.specs.Tables.{verdictRefusal}
 use Rattle.reader.specs.Told.{firstTransitions, systemOf, below}
+use Rattle.reader.proofs.Searches.{below-in, below-out}
+use Rattle.reader.proofs.Fronts.{within-tables}
 use Rattle.state_set.specs.Rows.{AllEmpty}
 use Rattle.state_set.proofs.Rows.{empty-row}
 use Rattle.transition_system.specs.Sets.{Excitations, Successors, SetsOf}
-use Rattle.transition_system.proofs.Unreached.{below-in, below-out}
-use Rattle.transition_system.proofs.WithinTables.{within-tables}
 
 -- a fresh row has the successors of no transition
 pub no-successors : Successors [] (replicate 1024 0)

@@ -15,6 +15,8 @@ ghost use Rattle.transition_system.specs.Reaches.{Reaches};
 use model::Refusal;
 use reader::Tables;
 use reader::Verdict;
+use reader::narrow;
+use reader::wide;
 use state_set::Found;
 use state_set::StateSet;
 use state_set::contains;
@@ -24,12 +26,6 @@ use state_set::load;
 use state_set::lowest;
 use state_set::single;
 use state_set::without;
-
-fn wide(x: u8) -> usize
-    ensures { λ r. ⌜ (r ≡ x) × (r < 256) ⌝ }
-{
-    x as usize
-}
 
 // The first of n transitions that leads from state s by event e; n if there is none.
 fn first_leading<'a>(source: &'a [u8], event: &'a [u8], n: usize, s: u8, e: u8) -> usize
@@ -147,13 +143,6 @@ fn unreached_state(successors: &[u64], initial: u8, n: usize) -> usize
             if k < n { k } else { n }
         }
     }
-}
-
-fn narrow(x: usize) -> u8
-    requires { ⌜ x < 256 ⌝ }
-    ensures { λ r. ⌜ r ≡ x ⌝ }
-{
-    x as u8
 }
 
 // 4 to 7 in the paper's order. Passed, `excited` has the excitation set of each event.

@@ -1,22 +1,25 @@
 -- `closure::check_closed` meets its contract: the events passed are closed. The laws are in `Searches`.
 use Prim.Native.Nat.{_-_}
-use mathlib.Core.Path.{sym}
+use native.Mathlib.Omega.{arith}
+use mathlib.Core.Path.{_≡_, sym}
+use mathlib.Core.Option.{none}
 use borrow.Author.Needs.{needs}
 use Rattle.model.specs.Cases.{tabled}
 use Rattle.reader.specs.Tables.{verdictRefusal}
-use Rattle.closure.specs.Covers.{openIn, openRefusal}
-use Rattle.closure.proofs.Searches.{Missed, missed-end, open-start, open-more, open-here}
+use Rattle.reader.proofs.Searches.{Upto, upto-start}
+use Rattle.closure.specs.Covers.{openIn}
+use Rattle.closure.proofs.Searches.{none-open, open-more, open-here}
 use Rattle.closure.proofs.check_closed.Statement.{statement}
 use Rattle.closure.proofs.check_closed.Tie as tie
 
 abbrev Inv-loop : tie.InvT-loop
-Inv-loop sets pre excited machines events e₀ e = Missed (openRefusal (openIn sets pre excited machines)) events e
+Inv-loop sets pre excited machines events e₀ e = Upto (λ j. openIn sets pre excited machines j ≡ none) events e
 
 abbrev μ-loop : tie.MeasureT-loop
 μ-loop sets pre excited machines events e₀ e = events - e
 
 loop-holds : tie.Need-loop-holds Inv-loop μ-loop
-loop-holds c = open-start _
+loop-holds c = upto-start
 
 open-state-requires : tie.Need-open-state-requires Inv-loop μ-loop
 open-state-requires c κs = search needs
@@ -50,7 +53,7 @@ loop-again c =
 
 returns-2 : tie.Need-returns-2 Inv-loop μ-loop
 unfolding verdictRefusal
-returns-2 c = sym (missed-end (c .before .loop .inv) (c .loop-test .left))
+returns-2 c = sym (none-open _ _ (λ j l. c .before .loop .inv .each j (omega arith)))
 
 pub check-closed-spec : {M : Type 1} → statement M
 check-closed-spec =

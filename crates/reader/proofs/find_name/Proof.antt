@@ -2,18 +2,19 @@
 use Prim.Native.Nat.{_-_}
 use native.Mathlib.Omega.{arith}
 use mathlib.Core.Logic.{⊎-elim}
-use Rattle.reader.proofs.NameRows.{Sought, seek-start, seek-more, finds}
+use Rattle.reader.proofs.Searches.{Upto, upto-start, upto-more}
+use Rattle.reader.proofs.NameRows.{Same, finds}
 use Rattle.reader.proofs.find_name.Statement.{statement}
 use Rattle.reader.proofs.find_name.Tie as tie
 
 abbrev Inv-loop : tie.InvT-loop
-Inv-loop len high low count n h l k₀ k = Sought count len high low n h l k
+Inv-loop len high low count n h l k₀ k = Upto (λ j. Same len high low n h l j → ⊥) count k
 
 abbrev μ-loop : tie.MeasureT-loop
 μ-loop len high low count n h l k₀ k = count - k
 
 loop-holds : tie.Need-loop-holds Inv-loop μ-loop
-loop-holds c = seek-start
+loop-holds c = upto-start
 
 mul-if1 : tie.Need-mul-if1 Inv-loop μ-loop
 mul-if1 c = omega arith
@@ -46,7 +47,7 @@ loop-less c = omega arith
 
 loop-again : tie.Need-loop-again Inv-loop μ-loop
 loop-again c =
-    seek-more (c .before .before .before .loop .inv) (c .before .before .loop-test .taken)
+    upto-more (c .before .before .before .loop .inv) (c .before .before .loop-test .taken)
     (⊎-elim (λ w s. w .4 .left (s .long)) (⊎-elim (λ w s. w .2 .left (s .low)) (λ w s. w .left (s .high))) (c .if1 .came))
 
 returns-2 : tie.Need-returns-2 Inv-loop μ-loop

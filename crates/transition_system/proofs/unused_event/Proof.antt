@@ -2,12 +2,13 @@
 use Prim.Native.Nat.{_-_}
 use native.Mathlib.Omega.{arith}
 use borrow.Author.Needs.{needs}
-use Rattle.transition_system.proofs.Unused.{Excited, excited-start, excited-more, nothing-idle, state-excites, unused-found}
+use Rattle.reader.proofs.Searches.{Upto, upto-start, upto-more}
+use Rattle.transition_system.proofs.Unused.{Idle, nothing-idle, state-excites, unused-found}
 use Rattle.transition_system.proofs.unused_event.Statement.{statement}
 use Rattle.transition_system.proofs.unused_event.Tie as tie
 
 abbrev Inv-loop : tie.InvT-loop
-Inv-loop excited events e₀ e = Excited excited events e
+Inv-loop excited events e₀ e = Upto (λ j. Idle excited j → ⊥) events e
 
 abbrev μ-loop : tie.MeasureT-loop
 μ-loop excited events e₀ e = events - e
@@ -17,7 +18,7 @@ abbrev turn : tie.After-lowest Inv-loop μ-loop → tie.At-loop Inv-loop μ-loop
 turn c = c .before .before .before
 
 loop-holds : tie.Need-loop-holds Inv-loop μ-loop
-loop-holds c = excited-start
+loop-holds c = upto-start
 
 load-requires : tie.Need-load-requires Inv-loop μ-loop
 load-requires c κs = search needs
@@ -45,7 +46,7 @@ loop-less c = search needs
 loop-again : tie.Need-loop-again Inv-loop μ-loop
 loop-again c =
     let d = c .before .before in
-    excited-more (turn d .loop .inv) (d .before .before .loop-test .taken)
+    upto-more (turn d .loop .inv) (d .before .before .loop-test .taken)
     (state-excites _ _ (d .before .load .ensures) (d .lowest .ensures) (c .enum-told2 .given .1))
 
 returns-2 : tie.Need-returns-2 Inv-loop μ-loop
