@@ -25,8 +25,8 @@ pub fn check_as_far_as_12(p: Tables, pre: &mut [u8], post: &mut [u8]) -> Verdict
         return Verdict::Refused(why);
     }
     let machines = check_regions(p, pre, post);
-    if let Verdict::Refused(why) = machines {
-        return Verdict::Refused(why);
+    if let Verdict::Refused(fault) = machines {
+        return Verdict::Refused(fault);
     }
     check_cover(p, &excited, pre)
 }
