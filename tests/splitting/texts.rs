@@ -158,6 +158,7 @@ fn read_texts() -> Vec<Case> {
 fn example_files() -> Vec<Case> {
     let folder = std::fs::read_dir("examples").expect("the folder examples");
     let mut files: Vec<_> = folder.map(|file| file.expect("a file").path()).collect();
+    files.retain(|file| file.extension().is_some_and(|ending| ending == "plan"));
     files.sort();
     files.iter().map(|file| open("example file", std::fs::read(file).expect("an example"))).collect()
 }

@@ -9,7 +9,6 @@ use Rattle.model.specs.declared.Refusal as D
 use Rattle.model.specs.TransitionSystem.{TransitionSystem, unusedEvent, systemRefusal}
 use Rattle.model.specs.Machine.{Decomposition, machinesRefusal, coverRefusal}
 use Rattle.model.proofs.Laws.{orElse-none, map-none}
-use Rattle.state_set.specs.Rows.{AllEmpty}
 use Rattle.state_set.proofs.Rows.{empty-row}
 use Rattle.reader.specs.declared.Verdict.{Verdict}
 use Rattle.reader.specs.declared.Verdict.the-variants.{Refused, Passed}
@@ -49,5 +48,5 @@ all-used ts n = map-none _ (unusedEvent ts) (orElse-none _ _ (orElse-none _ _ n 
 
 -- a fresh row of sets has no transition's state
 pub no-excitations : Excitations [] (replicate 256 0)
-unfolding exists AllEmpty
+unfolding exists
 no-excitations = record { size = refl; members = λ e s h. empty-row 256 e s }

@@ -11,6 +11,7 @@ use closure::check_cover;
 use reader::Tables;
 use reader::Verdict;
 use regions::check_regions;
+use transition_system::EXCITATION_WORDS;
 use transition_system::check_transition_system;
 
 // As far as 12. Passed, the rows have the move of each event on each machine.
@@ -19,7 +20,7 @@ pub fn check_as_far_as_12(p: Tables, pre: &mut [u8], post: &mut [u8]) -> Verdict
     ensures { λ r. ⌜ ((ms : Decomposition) → MachinesTold (systemOf p) p ms → verdictRefusal r ≡ refusalTo12 (systemOf p) ms) ⌝ }
     ensures { λ r. ⌜ ((ms : Decomposition) → MachinesTold (systemOf p) p ms → verdictRefusal r ≡ none → MovesTold (systemOf p) ms (now (pre .exit)) (now (post .exit))) ⌝ }
 {
-    let mut excited = [0u64; 256];
+    let mut excited = [0u64; EXCITATION_WORDS];
     let system = check_transition_system(p, &mut excited);
     if let Verdict::Refused(why) = system {
         return Verdict::Refused(why);

@@ -11,7 +11,7 @@ use borrow.Author.Tests.{lt-ltb, le-ltb, eq-eqb, ne-eqb}
 use lib.Dec.{eqb, ltb}
 use lib.ListN.{length, replicate}
 use Rattle.model.proofs.Laws.{below-suc, order}
-use Rattle.state_set.specs.Rows.{memberAt, AllEmpty, Inserted}
+use Rattle.state_set.specs.Rows.{memberAt, Inserted}
 use Rattle.state_set.proofs.Rows.{empty-row}
 use Rattle.reader.specs.Told.{entry}
 use Rattle.closure.specs.Covers.{PlaceSets}
@@ -124,5 +124,4 @@ module _ {place : List ℕ} {n machines : ℕ} where
 
 -- no machine yet
 pub no-machines : (place : List ℕ) (n : ℕ) → PlaceSets place n 0 (replicate 4096 0)
-unfolding AllEmpty
 no-machines place n = record { size = refl; members = λ k q i l h. absurd (omega arith); others = λ j i l. empty-row 4096 j i }

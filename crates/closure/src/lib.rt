@@ -30,6 +30,9 @@ use state_set::lowest;
 use state_set::meet;
 use state_set::without;
 
+// Four words for each place of each machine.
+const PLACE_WORDS: usize = 4096;
+
 // The places of machine m as sets, in one pass over its states.
 fn add_places(place: &[u8], n: usize, m: usize, sets: &mut [u64])
     requires { ⌜ (n ≤ 256) × (m < 16) × (length (now place) ≡ 4096) × PlaceSets (now place) n m (now sets) ⌝ }
@@ -111,8 +114,8 @@ fn open_state(sets: &[u64], pre: &[u8], excited: &[u64], machines: usize, e: usi
     ensures { λ r. ⌜ stateFound r ≡ openIn (now (sets .entry)) (now (pre .entry)) (now (excited .entry)) machines e ⌝ }
 {
     let common = common_states(sets, pre, machines, e);
-    let within = load(excited, e);
-    lowest(without(common, within))
+    let excitation = load(excited, e);
+    lowest(without(common, excitation))
 }
 
 // 12: the lowest event whose closure fails, and there the lowest state.
@@ -150,7 +153,7 @@ pub fn check_cover(p: Tables, excited: &[u64], pre: &[u8]) -> Verdict
     if event < events {
         return Verdict::Refused(Refusal::IneffectiveEvent { event });
     }
-    let mut sets = [0u64; 4096];
+    let mut sets = [0u64; PLACE_WORDS];
     add_machines(&p.place, p.states, machines, &mut sets);
     check_closed(&sets, pre, excited, machines, events)
 }

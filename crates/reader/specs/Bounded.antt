@@ -1,4 +1,4 @@
--- What passing 1 to 3 leaves of the rows: every number of theirs is within its bound.
+-- What passing 1 to 3 leaves of the rows: counts and names within their bounds, and no state or event of a transition that is not declared.
 use Prim.Native.Nat.{ℕ, _+_, _≤_, _<_}
 use mathlib.Core.List.{List}
 use lib.ListN.{length}

@@ -32,7 +32,7 @@ use model::MAX_TEXT;
 use model::MAX_TRANSITIONS;
 use model::Refusal;
 
-// Whether a text passes 1 to 3.
+// What a check answers, here whether a text passes 1 to 3.
 pub enum Verdict {
     Refused(Refusal),
     Passed,

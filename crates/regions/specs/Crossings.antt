@@ -32,7 +32,7 @@ pub record RowSizes (source target place : List ℕ) : Type 0 where
   pub targets : length target ≡ 1024
   pub places : length place ≡ 4096
 
--- The rows give machine k, past 8 and 9, of a transition system whose events all have transitions.
+-- the rows give the transition system and its machine k, past 8 and 9
 pub record Scannable (ts : TransitionSystem) (m : Machine) (k : ℕ) (source event target place : List ℕ) (n : ℕ) : Type 0 where
   pub within : Within ts
   pub transitions : ts .transitions ≡ firstTransitions source event target n

@@ -27,6 +27,9 @@ use reader::wide;
 // In the row of pre-places: the event is not on the machine.
 pub const NOT_ON: u8 = 255;
 
+// A row of moves has an entry for each event of each machine.
+pub const MOVES: usize = 1024;
+
 fn position(x: u16) -> usize
     ensures { λ r. ⌜ r ≡ x ⌝ }
 {

@@ -18,18 +18,10 @@ use Rattle.model.proofs.Positions.{below-at, at-mem, at-value}
 use Rattle.model.proofs.Passed.{machines-good}
 use Rattle.model.proofs.Sheets.{at-lines, lines-length}
 use Rattle.reader.specs.declared.Tables.{Tables}
-use Rattle.reader.specs.Told.{entry, systemOf, nameOf, orNone, placeAt, Told}
+use Rattle.reader.specs.Told.{entry, systemOf, nameOf, Told}
+use Rattle.reader.proofs.Telling.{placed-at}
 use Rattle.regions.specs.Moves.{moveAt, MovesTold}
 use Rattle.sheet.specs.Written.{namesIn, rowNames, rowMoves, rowLine, rowLines, rowSheet}
-
--- an entry that is not the mark of none
-unmarked : (mark x y : ℕ) → orNone mark x ≡ some y → x ≡ y
-unfolding orNone
-unmarked mark x y h = go (eqb x mark) refl h
-  where
-    go : (b : Bool) → eqb x mark ≡ b → cond b none (some x) ≡ some y → x ≡ y
-    go true q e = absurd (Option·none-ne-some y e)
-    go false q e = Option·some-injective x y e
 
 -- the moves of one machine
 moves-told : (ts : TransitionSystem) (m : Machine) (pre post : List ℕ) (k n : ℕ) → ((e : ℕ) → e < n → moveAt pre post k e ≡ move ts m e)
@@ -53,13 +45,12 @@ module _ (s : List ℕ) (v : Input) (p : Tables) (pre post : List ℕ) (told : T
   names-told zero h = refl
   names-told (suc n) h = rw (take-suc (v .names) n [] h, names-told n (omega arith), told .name n h)
 
-  -- the state is listed, since the machine passes 9: its entry is no mark
+  -- the state is listed, since the machine passes 9
   start-told : (k : ℕ) (m : Machine) → At (v .machines) k m → entry (p .place) (k * 256 + p .initial) ≡ placeOf m (v .initial)
-  unfolding placeAt
   start-told k m a =
-      let listed = machines-good (system v) 0 (v .machines) passes m (at-mem (v .machines) k m a) .base .placed (v .initial) (omega (arith, l .initial, l .states-least)) in
-      let here = told .tells-machines .machine k m a .place (v .initial) (omega (arith, l .initial)) in
-      rw initial-told (unmarked 255 _ _ (rw (T-true (elem (v .initial) (flatten (m .places))) listed) at here))
+      rw initial-told
+      (placed-at (told .tells-machines .machine k m a) (v .initial) (omega (arith, l .initial))
+      (machines-good (system v) 0 (v .machines) passes m (at-mem (v .machines) k m a) .base .placed (v .initial) (omega (arith, l .initial, l .states-least))))
 
   line-told : (k : ℕ) (m : Machine) → At (v .machines) k m → rowLine p pre post k ≡ sheetLine (system v) k m
   unfolding rowLine sheetLine

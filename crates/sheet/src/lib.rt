@@ -1,4 +1,4 @@
-// The sheet: its length, and its bytes.
+// The sheet: its length, and its bytes. The line that tells a refusal.
 ghost use mathlib.Core.Path.{_≡_};
 ghost use mathlib.Core.List.{List};
 ghost use Prim.Native.Nat.{ℕ, _+_, _*_, _<_, _≤_};
@@ -39,7 +39,7 @@ fn digit(n: usize) -> u8
     b'0' + n as u8
 }
 
-// Bytes into a lent buffer at a position; the position after them. So are all functions below that write.
+// Bytes into a lent buffer at a position. The answer is the position after them, here and below.
 fn write_bytes(word: &[u8], out: &mut [u8], at: usize) -> usize
     requires { ⌜ at + length (now word) ≤ length (now out) ⌝ }
     ensures { λ r. ⌜ Writes (now (word .entry)) at (now (out .entry)) r (now (out .exit)) ⌝ }
@@ -73,11 +73,18 @@ fn write_figure(n: usize, out: &mut [u8], at: usize) -> usize
 
 // ---- lengths
 
+// The bytes of the first line, of a machine's line and of a move that are the same in each.
+const FIRST_LINE: usize = 12;
+
+const MACHINE_LINE: usize = 30;
+
+const MOVE: usize = 10;
+
 fn move_len(name: usize, pre: u8, post: u8) -> usize
     requires { ⌜ name ≤ 16 ⌝ }
     ensures { λ r. ⌜ (r ≡ 10 + name + length (digits pre) + length (digits post)) × (r ≤ 32) ⌝ }
 {
-    10 + name + figure_len(wide(pre)) + figure_len(wide(post))
+    MOVE + name + figure_len(wide(pre)) + figure_len(wide(post))
 }
 
 // The moves of the events on machine m.
@@ -100,21 +107,21 @@ fn moves_len(lens: &[usize], pre: &[u8], post: &[u8], m: usize, events: usize) -
     total
 }
 
-// The whole sheet, which has an entry for each machine.
+// The whole sheet: its first line, and a line for each machine.
 pub fn sheet_len(p: Tables, pre: &[u8], post: &[u8]) -> usize
     requires { ⌜ Bounded p × MoveRows (now pre) (now post) ⌝ }
     ensures { λ r. ⌜ ((s : List ℕ) → NamesInside s (p .«name_at») (p .«name_len») (p .events) → r ≡ length (rowSheet s p (now (pre .entry)) (now (post .entry)))) ⌝ }
 {
-    let machines = p.machines;
+    let count = p.machines;
     let events = p.events;
     let initial = p.initial;
-    let mut total = 12 + figure_len(machines);
+    let mut total = FIRST_LINE + figure_len(count);
     let mut m = 0;
-    while m < machines {
+    while m < count {
         let size = figure_len(p.sizes[m]);
         let start = figure_len(wide(p.place[m * MAX_STATES + initial]));
         let moves = moves_len(&p.name_len, pre, post, m, events);
-        total += 30 + figure_len(m) + size + start + moves;
+        total += MACHINE_LINE + figure_len(m) + size + start + moves;
         m += 1;
     }
     total

@@ -1,8 +1,9 @@
 // Reads a text from standard input and writes its sheet, or why it is refused.
 ghost use mathlib.Core.Path.{_≡_};
 ghost use Prim.Native.Nat.{_≤_};
-ghost use lib.ListN.{length, take};
+ghost use lib.ListN.{length};
 ghost use Rattle.model.specs.Services.{printed};
+ghost use Rattle.sheet.specs.Written.{Writes};
 use libc::STDIN_FILENO;
 use libc::STDOUT_FILENO;
 use sheet::write_refusal;
@@ -10,11 +11,11 @@ use splitter::Answer;
 use splitter::check;
 use splitter::numbers;
 
-// The sheet, or the refusal line, at the beginning of the buffer; how many bytes it has.
+// The sheet, or the refusal line, into the beginning of the buffer; how many bytes it has.
 fn answer(text: &[u8], out: &mut [u8]) -> usize
     requires { ⌜ length (now out) ≡ 32768 ⌝ }
     ensures { λ r. ⌜ r ≤ 32768 ⌝ }
-    ensures { λ r. ⌜ take r (now (out .exit)) ≡ printed (now (text .entry)) ⌝ }
+    ensures { λ r. ⌜ Writes (printed (now (text .entry))) 0 (now (out .entry)) r (now (out .exit)) ⌝ }
 {
     match check(text, out) {
         Answer::Refused(why) => {

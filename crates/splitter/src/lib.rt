@@ -7,6 +7,7 @@ use checker::check_as_far_as_12;
 use model::Refusal;
 use reader::Verdict;
 use reader::read;
+use regions::MOVES;
 use regions::NOT_ON;
 use sheet::sheet_len;
 use sheet::write_sheet;
@@ -68,8 +69,8 @@ pub fn check(text: &[u8], out: &mut [u8]) -> Answer
     }
     let tables = reading.tables;
     let lent = out.len();
-    let mut pre = [NOT_ON; 1024];
-    let mut post = [0u8; 1024];
+    let mut pre = [NOT_ON; MOVES];
+    let mut post = [0u8; MOVES];
     let verdict = check_as_far_as_12(tables, &mut pre, &mut post);
     if let Verdict::Refused(fault) = verdict {
         return Answer::Refused(fault);

@@ -1,6 +1,6 @@
 -- Rows of sets: what is stored where, and what a fresh row has.
-use mathlib.Core.Path.{_≡_, refl, ap, _∙_}
-use mathlib.Core.Bool.{Bool, true, false, cond, _&&_, _||_}
+use mathlib.Core.Path.{_≡_, refl, ap, sym, _∙_}
+use mathlib.Core.Bool.{Bool, true, false, cond, _&&_, _||_, or-false}
 use mathlib.Core.List.{List}
 use Prim.Native.Nat.{ℕ, zero, suc, _+_, _*_, _/_, _<_}
 use native.Mathlib.Decide.{ℕ-discrete}
@@ -10,7 +10,7 @@ use lib.Dec.{eqb}
 use lib.ListN.{length, getD, set, replicate, length-set}
 use lib.Seq.{getD-set-same, getD-set-other}
 use Rattle.state_set.specs.Member.{member}
-use Rattle.state_set.specs.Rows.{setAt, memberAt, AllEmpty, Stored, Inserted}
+use Rattle.state_set.specs.Rows.{setAt, memberAt, Stored, Inserted}
 use Rattle.state_set.specs.declared.StateSet.{StateSet}
 use Rattle.state_set.proofs.Sets.{empty-member}
 
@@ -70,10 +70,6 @@ module _ (row : List ℕ) (k : ℕ) (a : StateSet) where
       go j (no n) = rw (ne-eqb j k n) (other-set j n)
 
 -- ---- a state is added
-or-false : (t : Bool) → t ≡ (t || false)
-or-false true = refl
-or-false false = refl
-
 -- what `load`, `single`, `join` and `store` gave, in that order
 pub inserted : {k state : ℕ} {old new : List ℕ} {a r : StateSet} (s : StateSet) → a ≡ setAt old k → ((i : ℕ) → member s i ≡ eqb i state)
     → ((i : ℕ) → member r i ≡ (member a i || member s i)) → Stored k r old new → Inserted k state old new
@@ -85,7 +81,7 @@ inserted {k} {state} {old} {new} {a} {r} s e o b w = record { size = w .size; me
 
     go : (j i : ℕ) → Dec (j ≡ k) → memberAt new j i ≡ (memberAt old j i || (eqb j k && eqb i state))
     go j i (yes p) = at j i (eq-eqb j k p) ∙ b i ∙ rw (e, p, o, eq-eqb k k refl)
-    go j i (no n) = at j i (ne-eqb j k n) ∙ rw (ne-eqb j k n) (or-false (memberAt old j i))
+    go j i (no n) = at j i (ne-eqb j k n) ∙ rw (ne-eqb j k n) (sym (or-false (memberAt old j i)))
 
 -- ---- a fresh row
 zero-at : (n p : ℕ) → _≡_ {A = ℕ} (getD (replicate n 0) p 0) 0
@@ -93,6 +89,6 @@ zero-at zero p = refl
 zero-at (suc n) zero = refl
 zero-at (suc n) (suc p) = zero-at n p
 
-pub empty-row : (n : ℕ) → AllEmpty (replicate n 0)
-unfolding AllEmpty memberAt setAt
+pub empty-row : (n k i : ℕ) → memberAt (replicate n 0) k i ≡ false
+unfolding memberAt setAt
 empty-row n k i = rw (zero-at n (k * 4), zero-at n (k * 4 + 1), zero-at n (k * 4 + 2), zero-at n (k * 4 + 3)) (empty-member i)

@@ -1,7 +1,7 @@
 -- Sets in a row of words, four words each.
-use Prim.Native.Nat.{ℕ, _+_, _*_, _<_}
+use Prim.Native.Nat.{ℕ, _+_, _*_}
 use mathlib.Core.Path.{_≡_}
-use mathlib.Core.Bool.{Bool, false, cond, _&&_, _||_}
+use mathlib.Core.Bool.{Bool, cond, _&&_, _||_}
 use mathlib.Core.List.{List}
 use lib.Dec.{eqb}
 use lib.ListN.{length, getD}
@@ -20,10 +20,6 @@ setAt row k =
 -- state i is in set k
 unfoldable pub memberAt : List ℕ → ℕ → ℕ → Bool
 memberAt row k i = member (setAt row k) i
-
--- no set has a state
-unfoldable pub AllEmpty : List ℕ → Type 0
-AllEmpty row = (k i : ℕ) → memberAt row k i ≡ false
 
 -- set k is now a, the others are as they were
 pub record Stored (k : ℕ) (a : StateSet) (old new : List ℕ) : Type 0 where

@@ -18,13 +18,12 @@ use Rattle.reader.specs.Tables.{verdictRefusal}
 use Rattle.reader.specs.Told.{firstTransitions, systemOf, below}
 use Rattle.reader.proofs.Searches.{below-in, below-out}
 use Rattle.reader.proofs.Fronts.{within-tables}
-use Rattle.state_set.specs.Rows.{AllEmpty}
 use Rattle.state_set.proofs.Rows.{empty-row}
 use Rattle.transition_system.specs.Sets.{Excitations, Successors, SetsOf}
 
 -- a fresh row has the successors of no transition
 pub no-successors : Successors [] (replicate 1024 0)
-unfolding exists AllEmpty
+unfolding exists
 no-successors = record { size = length-replicate {A = ℕ} 1024 0; members = λ s u l. empty-row 1024 s u }
 
 -- the transitions that the tables hold

@@ -27,6 +27,11 @@ use state_set::lowest;
 use state_set::single;
 use state_set::without;
 
+// Rows of sets have four words for each set: the excitation set of each event, the successors of each state.
+pub const EXCITATION_WORDS: usize = 256;
+
+const SUCCESSOR_WORDS: usize = 1024;
+
 // The first of n transitions that leads from state s by event e; n if there is none.
 fn first_leading<'a>(source: &'a [u8], event: &'a [u8], n: usize, s: u8, e: u8) -> usize
     requires { ⌜ (n ≤ length (now source)) × (n ≤ length (now event)) ⌝ }
@@ -151,7 +156,7 @@ pub fn check_transition_system(p: Tables, excited: &mut [u64]) -> Verdict
     ensures { λ r. ⌜ verdictRefusal r ≡ systemRefusal (systemOf p) ⌝ }
     ensures { λ r. ⌜ (verdictRefusal r ≡ none → Excitations (systemOf p .transitions) (now (excited .exit))) ⌝ }
 {
-    let mut successors = [0u64; 1024];
+    let mut successors = [0u64; SUCCESSOR_WORDS];
     let n = p.transitions;
     let forks = add_transitions(&p.source, &p.event, &p.target, n, excited, &mut successors);
     if let Verdict::Refused(why) = forks {
