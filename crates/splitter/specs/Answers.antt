@@ -6,7 +6,7 @@ use Rattle.splitter.specs.declared.Answer.{Answer}
 use Rattle.splitter.specs.declared.Answer.the-variants.{Refused, Accepted}
 use Rattle.splitter.specs.declared.RefusalNumbers.{RefusalNumbers}
 
--- how many bytes were written, or the refusal
+-- how many bytes were written, or the refusal; injective by proofs/Injective
 unfoldable pub answered : Answer → Checked ℕ
 answered (Refused why) = refused (tabled why)
 answered (Accepted size) = passed size
