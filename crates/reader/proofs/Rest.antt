@@ -24,10 +24,6 @@ pub and-not : (a b : Bool) → (a && b) ≡ false → (a ≡ false) ⊎ (b ≡ f
 and-not true b e = inr e
 and-not false b e = inl refl
 
-pub too-long : (s : List ℕ) → 32768 < length s → read s ≡ refused (refuse 2 0 0)
-unfolding read
-too-long s h = rw (lt-leb (length s) 32768 h)
-
 pub rest-start : (s : List ℕ) → length s ≤ 32768 → Rest s [] 0 (read s)
 unfolding read
 rest-start s h = rw (le-leb (length s) 32768 h) (record { inside = omega arith; fuel = suc (length s); enough = omega arith; same = refl })

@@ -11,7 +11,7 @@ use mathlib.Core.Option.{none, some}
 use lib.Dec.{T}
 use lib.ListN.{length, getD}
 use Rattle.model.specs.Lists.{index, lowest}
-use Rattle.model.proofs.Laws.{contra, order, cond-true, cond-false, Lowest, found, absent, lowest-view, none-lowest}
+use Rattle.model.proofs.Laws.{order, cond-true, cond-false, none-lowest, lowest-is}
 use Rattle.reader.specs.Told.{below}
 
 -- a loop over n numbers has come to k, and what it asks holds of each before k
@@ -39,17 +39,8 @@ below-out n k l = rw (le-ltb k n l)
 pub searched : (f : ℕ → Bool) (n k : ℕ) → k ≤ n → ((j : ℕ) → j < k → T (not (f j))) → (k < n → T (f k)) → below n k ≡ lowest f n
 searched f n k most before here = go (order k n)
   where
-    first : k < n → Lowest f n → some k ≡ lowest f n
-    first l (absent e h) = absurd (contra (f k) (h k l) (here l))
-    first l (found j e b t h) = same (order k j) (order j k)
-      where
-        same : (k < j) ⊎ (j ≤ k) → (j < k) ⊎ (k ≤ j) → some k ≡ lowest f n
-        same (inl x) y = absurd (contra (f k) (h k x) (here l))
-        same (inr x) (inl y) = absurd (contra (f j) (before j y) t)
-        same (inr x) (inr y) = ap some (omega arith) ∙ sym e
-
     go : (k < n) ⊎ (n ≤ k) → below n k ≡ lowest f n
-    go (inl l) = below-in n k l ∙ first l (lowest-view f n)
+    go (inl l) = below-in n k l ∙ sym (lowest-is f n k l (here l) before)
     go (inr l) = below-out n k l ∙ sym (none-lowest f n (λ j b. before j (omega arith)))
 
 pub lowest-same : (f g : ℕ → Bool) (n : ℕ) → ((i : ℕ) → i < n → f i ≡ g i) → lowest f n ≡ lowest g n

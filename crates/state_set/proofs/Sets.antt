@@ -11,9 +11,9 @@ use borrow.Author.Tests.{eq-eqb, ne-eqb, lt-ltb, le-ltb}
 use lib.Pow.{shl-exact}
 use lib.Bits.{bitAnd, bitOr}
 use lib.Count.{trailingZeros}
-use lib.Dec.{T, eqb, ltb, lit<}
+use lib.Dec.{eqb, ltb, lit<}
 use Rattle.model.specs.Lists.{lowest}
-use Rattle.model.proofs.Laws.{Lowest, found, absent, lowest-view, none-lowest, below-suc, contra}
+use Rattle.model.proofs.Laws.{none-lowest, lowest-is, below-suc}
 use Rattle.state_set.specs.Member.{bit, member, wordAt}
 use Rattle.state_set.specs.declared.StateSet.{StateSet}
 use Rattle.state_set.proofs.Digits.{zero-bit, and-bit, or-bit, not-bit, power-bit, ones-bit, trailing-lt, trailing-hit, trailing-below}
@@ -138,22 +138,6 @@ single-member q x l d i =
         ap (λ (t : Bool). bit (pick t) (i % 64)) (ne-eqb (i / 64) q p) ∙ zero-bit (i % 64) ∙ sym (ne-eqb i x (λ h. p (omega arith)))
 
 -- ---- the lowest state
--- k passes and nothing below it does
-lowest-is : (f : ℕ → Bool) (n k : ℕ) → k < n → f k ≡ true → ((j : ℕ) → j < k → f j ≡ false) → lowest f n ≡ some k
-lowest-is f n k l t b = go (lowest-view f n)
-  where
-    passes : T (f k)
-    passes = rw t tt
-
-    go : Lowest f n → lowest f n ≡ some k
-    go (found j e m u h) = e ∙ ap (λ (x : ℕ). some x) (same (decLt j k) (decLt k j))
-      where
-        same : Dec (j < k) → Dec (k < j) → j ≡ k
-        same (yes p) q = absurd (rw (b j p) at u)
-        same (no p) (yes q) = absurd (contra (f k) (h k q) passes)
-        same (no p) (no q) = omega arith
-    go (absent e h) = absurd (contra (f k) (h k l) passes)
-
 -- the words before word q are 0
 abbrev Blank : StateSet → ℕ → Type 0
 Blank s q = (k : ℕ) → k < q → wordAt s k ≡ 0
@@ -185,7 +169,7 @@ module _ (s : StateSet) where
   pub lowest-at : (q r w : ℕ) → q < 4 → wordAt s q ≡ w → w < 2 ^ 64 → 0 < w → Blank s q → r ≡ q * 64 + trailingZeros 64 w
       → some r ≡ lowest (member s) 256
   unfolding member
-  lowest-at q r w l e h p z g = sym (lowest-is (member s) 256 r (omega (arith, t-lt)) hit below)
+  lowest-at q r w l e h p z g = sym (lowest-is (member s) 256 r (omega (arith, t-lt)) (rw hit tt) (λ j b. rw (below j b) tt))
     where
       t-lt : trailingZeros 64 w < 64
       t-lt = trailing-lt 64 w h p

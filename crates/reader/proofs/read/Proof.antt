@@ -11,12 +11,12 @@ use Rattle.model.specs.Cases.{tabled}
 use Rattle.model.specs.Reading.{got}
 use Rattle.model.specs.Form.{states, statesLine, eventsLine}
 use Rattle.model.specs.Text.{distinct, read}
+use Rattle.model.proofs.Whole.{read-long}
 use Rattle.lines.specs.declared.EventsLine.{EventsLine}
 use Rattle.lines.specs.Lines.{eventsRows}
 use Rattle.lines.proofs.Found.{states-got, states-missing, GotEvents, events-got, events-missing}
 use Rattle.reader.specs.Sections.{Events, Rest, ReadsLines}
 use Rattle.reader.proofs.NameRows.{events-rows}
-use Rattle.reader.proofs.Rest.{too-long}
 use Rattle.reader.proofs.Phases.{states-fail, states-none, states-many, states-more, events-fail, events-many, events-twice, events-more, events-held}
 use Rattle.reader.proofs.Answering.{answers-refused}
 use Rattle.reader.proofs.Telling.{answering}
@@ -77,7 +77,7 @@ refused-requires c κs = search needs
 returns : tie.Need-returns
 unfolding tabled
 returns c =
-    answering _ _ (answers-refused (too-long _ (c .before .if1 .taken)) (c .refused .ensures .0) (c .refused .ensures .1))
+    answering _ _ (answers-refused (read-long _ (c .before .if1 .taken)) (c .refused .ensures .0) (c .refused .ensures .1))
 
 read-states-requires : tie.Need-read-states-requires
 read-states-requires c κs = search needs
