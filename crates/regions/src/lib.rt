@@ -30,6 +30,7 @@ pub const NOT_ON: u8 = 255;
 // A row of moves has an entry for each event of each machine.
 pub const MOVES: usize = 1024;
 
+// A position in a row of positions as an index, and an index as such a position.
 fn position(x: u16) -> usize
     ensures { λ r. ⌜ r ≡ x ⌝ }
 {
@@ -82,6 +83,7 @@ fn crossing_at<'a>(
     }
 }
 
+// Both stay in their place, or both lead from one place to the same other place.
 fn agrees(a: Crossing, b: Crossing) -> bool
     ensures { λ r. ⌜ r ≡ agreeing a b ⌝ }
 {

@@ -11,13 +11,13 @@ use lib.ListN.{length, getD, take, drop, length-append, length-drop, List·getD-
 use lib.Seq.{getD-at, length-take-le}
 use Rattle.model.specs.Bytes.{digits, Name}
 use Rattle.model.specs.Machine.{Move}
-use Rattle.model.specs.Sheet.{addMove, writtenMove}
+use Rattle.model.specs.Sheet.{addMove, moveBytes, writtenMove}
 use Rattle.model.proofs.Laws.{cond-true, cond-false, not-below, below-suc, order}
 use Rattle.model.proofs.ListLaws.{flatMap-append}
 use Rattle.reader.specs.Told.{entry}
 use Rattle.reader.specs.Bounded.{NamesInside}
 use Rattle.regions.specs.Moves.{moveAt}
-use Rattle.sheet.specs.Written.{Writes, moveBytes, namesIn, rowMoves, movesBytes}
+use Rattle.sheet.specs.Written.{Writes, namesIn, rowMoves, movesBytes}
 use Rattle.sheet.proofs.Writing.{within, writes-none, writes-append, writes-length}
 use Rattle.sheet.proofs.Parts.{length-move}
 

@@ -7,7 +7,8 @@ use lib.ListN.{length, length-append}
 use Rattle.model.specs.Refusal.{refuse}
 use Rattle.model.specs.Bytes.{bytes, digits, numeral}
 use Rattle.model.specs.Services.{writtenRefusal}
-use Rattle.sheet.specs.Written.{moveBytes, headBytes}
+use Rattle.model.specs.Sheet.{moveBytes}
+use Rattle.sheet.specs.Written.{headBytes}
 
 -- three words, with what stands before, between and after them
 spaced : (a w b x d y f : List ℕ)

@@ -15,11 +15,6 @@ pub record Writes (word : List ℕ) (at : ℕ) (out : List ℕ) (next : ℕ) (le
   pub after : next ≡ at + length word
   pub bytes-left : left ≡ sets out at word
 
--- one move, by its name
-unfoldable pub moveBytes : Name → ℕ → ℕ → List ℕ
-moveBytes name pre post =
-    bytes " (move " ++ (name ++ (bytes " " ++ (digits pre ++ (bytes " " ++ (digits post ++ bytes ")")))))
-
 -- what stands before the moves of a machine
 unfoldable pub headBytes : ℕ → ℕ → ℕ → List ℕ
 headBytes k size start =

@@ -66,6 +66,7 @@ fn add_transition<'a>(
     let s = source[k];
     let t = target[k];
     let e = event[k];
+    // the transitions follow the lines of the states and the events
     let line = k + 3;
     if s == t {
         return Verdict::Refused(Refusal::SelfLoop { line });

@@ -2,7 +2,7 @@
 use native.Mathlib.Omega.{arith}
 use borrow.Author.Needs.{needs}
 use denote.Ref.{now}
-use Rattle.sheet.specs.Written.{moveBytes}
+use Rattle.model.specs.Sheet.{moveBytes}
 use Rattle.sheet.proofs.Writing.{writes-append}
 use Rattle.sheet.proofs.Figures.{length-same, writes-same}
 use Rattle.sheet.proofs.Parts.{length-move}
