@@ -1,12 +1,15 @@
--- Two refusals of the code that have the same number and details are the same.
+-- What the model takes for the same of the code's types is the same: refusals with the same number and details, step records with the same transition.
 use Prim.Native.Nat.{ℕ}
 use mathlib.Core.Path.{_≡_, refl, ap, sym, _∙_}
 use mathlib.Core.Bool.{cond}
+use mathlib.Core.List.{List, [], _∷_, map}
 use lib.Dec.{eqb}
 use Rattle.model.specs.declared.Refusal as D
 use Rattle.model.specs.declared.Refusal.the-variants as C
 use Rattle.model.specs.Refusal.{Refusal}
-use Rattle.model.specs.Cases.{tabled}
+use Rattle.model.specs.declared.Transition as T
+use Rattle.model.specs.TransitionSystem.{Transition}
+use Rattle.model.specs.Cases.{tabled, recorded}
 
 -- the case with this number and these details
 caseOf : Refusal → D.Refusal
@@ -53,3 +56,16 @@ case-of-tabled (C.UnknownEvent position) = refl
 
 pub tabled-injective : (x y : D.Refusal) → tabled x ≡ tabled y → x ≡ y
 tabled-injective x y e = sym (case-of-tabled x) ∙ ap caseOf e ∙ case-of-tabled y
+
+-- the step record of a transition
+abbrev recordOf : Transition → T.Transition
+recordOf t = record { source = t .source; event = t .event; target = t .target }
+
+-- told by their transitions, lists of records are told whole
+pub records-injective : (xs ys : List T.Transition) → map recorded xs ≡ map recorded ys → xs ≡ ys
+unfolding recorded
+records-injective xs ys e = sym (back xs) ∙ ap (map recordOf) e ∙ back ys
+  where
+    back : (zs : List T.Transition) → map recordOf (map recorded zs) ≡ zs
+    back [] = refl
+    back (z ∷ zs) = ap (λ (l : List T.Transition). z ∷ l) (back zs)

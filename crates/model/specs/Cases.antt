@@ -1,8 +1,11 @@
--- The number and the details that document 01's table gives each refusal of the code.
+-- The types of the code in the model's words; each is told whole (proofs/Cases).
 use Rattle.model.specs.declared.Refusal.the-variants as C
 use Rattle.model.specs.declared.Refusal as D
+use Rattle.model.specs.declared.Transition as T
 use Rattle.model.specs.Refusal.{Refusal, refuse}
+use Rattle.model.specs.TransitionSystem.{Transition}
 
+-- the number and the details that document 01's table gives each refusal
 unfoldable pub tabled : D.Refusal → Refusal
 tabled (C.Malformed line) = refuse 1 line 0
 tabled (C.LimitExceeded line) = refuse 2 line 0
@@ -18,3 +21,7 @@ tabled (C.IneffectiveEvent event) = refuse 11 event 0
 tabled (C.NotExcitationClosed event state) = refuse 12 event state
 tabled (C.BufferTooShort needed) = refuse 13 needed 0
 tabled (C.UnknownEvent position) = refuse 14 position 0
+
+-- a step record: from-state, event number, to-state
+unfoldable pub recorded : T.Transition → Transition
+recorded t = record { source = t .source; event = t .event; target = t .target }

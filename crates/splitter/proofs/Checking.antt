@@ -1,5 +1,5 @@
--- Check and sheet in the model's words, by what the code finds out on its way: whether the text is read, what 4 to 12 say of its value, and whether the
--- sheet fits.
+-- The check as far as 7, and Check and sheet, in the model's words, by what the code finds out on its way: whether the text is read, what 4 to 12 say of its
+-- value, and whether the sheet fits.
 use Prim.Native.Nat.{ℕ, _<_, _≤_}
 use mathlib.Core.Path.{_≡_, refl, ap, sym}
 use mathlib.Core.List.{List, _++_}
@@ -19,7 +19,7 @@ pub was-passed : {A : Type 0} (c : Checked A) → refusalOf c ≡ none → (a : 
 was-passed (refused r) e = absurd (Option·some-ne-none r e)
 was-passed (passed a) e = (a, refl)
 
-was-refused : {A : Type 0} (c : Checked A) (r : Refusal) → refusalOf c ≡ some r → c ≡ refused r
+pub was-refused : {A : Type 0} (c : Checked A) (r : Refusal) → refusalOf c ≡ some r → c ≡ refused r
 was-refused (refused q) r e = ap refused (Option·some-injective q r e)
 was-refused (passed a) r e = absurd (Option·some-ne-none r (sym e))
 
@@ -33,6 +33,30 @@ joined v none f g = next (f v)
     next : (b : Option Refusal) → ((unless b >> passed v) >>= λ w. unless (g w) >> passed w) ≡ (unless (orElse b (g v)) >> passed v)
     next none = refl
     next (some r) = refl
+
+-- ---- as far as 7
+
+only-check : (v : Input) (o : Option Refusal) → refusalOf (unless o >> passed v) ≡ o
+only-check v none = refl
+only-check v (some r) = refl
+
+module _ (s : List ℕ) where
+  -- refused by 1 to 3
+  pub unread-7 : (r : Refusal) → refusalOf (read s) ≡ some r → refusalOf (asFarAs7 s) ≡ some r
+  unfolding asFarAs7
+  unread-7 r e = rw (was-refused (read s) r e)
+
+  module _ (v : Input) (e : read s ≡ passed v) where
+    -- the refusal is that of 4 to 7
+    pub refusal-7 : refusalOf (asFarAs7 s) ≡ systemRefusal (system v)
+    unfolding asFarAs7
+    refusal-7 = rw e (only-check v (systemRefusal (system v)))
+
+    pub passed-7 : systemRefusal (system v) ≡ none → asFarAs7 s ≡ passed v
+    unfolding asFarAs7
+    passed-7 h = rw (e, h)
+
+-- ---- Check and sheet
 
 module _ (s out : List ℕ) where
   -- this is what the call answers and leaves

@@ -1,7 +1,11 @@
 -- The model's words for an answer tell all of it.
-use mathlib.Core.Path.{_≡_, ap, sym}
+use mathlib.Core.Path.{_≡_, refl, ap, sym}
+use mathlib.Core.Option.{Option·some-ne-none, Option·some-injective}
 use Rattle.model.proofs.Cases.{tabled-injective}
 use Rattle.model.proofs.Verdicts.{refused-passed, same-refused, same-passed}
+use Rattle.reader.specs.declared.Verdict.{Verdict}
+use Rattle.reader.specs.declared.Verdict.the-variants as C
+use Rattle.reader.specs.Tables.{verdictRefusal}
 use Rattle.splitter.specs.declared.Answer.{Answer}
 use Rattle.splitter.specs.declared.Answer.the-variants.{Refused, Accepted}
 use Rattle.splitter.specs.Answers.{answered}
@@ -12,3 +16,10 @@ answered-injective (Refused x) (Refused y) e = ap Refused (tabled-injective x y 
 answered-injective (Refused x) (Accepted n) e = absurd (refused-passed _ n e)
 answered-injective (Accepted n) (Refused x) e = absurd (refused-passed _ n (sym e))
 answered-injective (Accepted m) (Accepted n) e = ap Accepted (same-passed m n e)
+
+pub verdict-injective : (a b : Verdict) → verdictRefusal a ≡ verdictRefusal b → a ≡ b
+unfolding verdictRefusal
+verdict-injective (C.Refused x) (C.Refused y) e = ap C.Refused (tabled-injective x y (Option·some-injective _ _ e))
+verdict-injective (C.Refused x) C.Passed e = absurd (Option·some-ne-none _ e)
+verdict-injective C.Passed (C.Refused y) e = absurd (Option·some-ne-none _ (sym e))
+verdict-injective C.Passed C.Passed e = refl

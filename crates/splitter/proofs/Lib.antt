@@ -1,8 +1,16 @@
 -- The laws behind the services.
 
--- Check and sheet, by the reading of the text and by 4 to 12
+-- Check and sheet, and the check as far as 7, by the reading of the text and by what the later checks say of its value
 pub mod Checking
 -- what the code knows of the text at each stage, and its answers
 pub mod Stages
+-- Steps, by its ways out
+pub mod Listing
+-- what Steps leaves, from the numbers listed and the records filled
+pub mod Records
+-- the entry of a function that is walked by hand
+pub mod Enter
+-- Name, by its ways out
+pub mod Naming
 -- answers that the model takes for the same are the same
 pub mod Injective

@@ -1,4 +1,4 @@
--- What the code knows of a text once it is read, and once it is past 12; and that each of its answers is the model's.
+-- What the code knows of a text once it is read, once it is past 7, and once it is past 12; and that each of its answers is the model's.
 use Prim.Native.Nat.{ℕ, _<_, _≤_}
 use mathlib.Core.Path.{_≡_, ap, sym, subst, _∙_}
 use mathlib.Core.List.{List}
@@ -9,38 +9,31 @@ use Rattle.model.specs.declared.Refusal as D
 use Rattle.model.specs.declared.Refusal.the-variants.{BufferTooShort}
 use Rattle.model.specs.Cases.{tabled}
 use Rattle.model.specs.Refusal.{passed, refusalOf}
-use Rattle.model.specs.TransitionSystem.{TransitionSystem}
+use Rattle.model.specs.TransitionSystem.{TransitionSystem, systemRefusal}
 use Rattle.model.specs.Machine.{Decomposition}
 use Rattle.model.specs.Text.{Input, system, read}
 use Rattle.model.specs.Sheet.{sheet}
+use Rattle.model.specs.Services.{asFarAs7}
 use Rattle.model.proofs.Laws.{orElse-none}
 use Rattle.reader.specs.declared.Verdict.{Verdict}
 use Rattle.reader.specs.declared.Verdict.the-variants.{Refused, Passed}
 use Rattle.reader.specs.declared.Tables.{Tables}
 use Rattle.reader.specs.Tables.{verdictRefusal, tablesOf}
 use Rattle.reader.specs.Told.{systemOf, MachinesTold, Told}
-use Rattle.reader.specs.Bounded.{Bounded, NamesInside}
 use Rattle.reader.proofs.Bounds.{limits, bounded, names-inside}
 use Rattle.regions.specs.Moves.{MovesTold}
 use Rattle.checker.specs.Order.{refusalTo12}
-use Rattle.checker.proofs.Verdicts.{lets-pass}
+use Rattle.checker.proofs.Verdicts.{refuses, lets-pass}
 use Rattle.sheet.specs.Written.{rowSheet}
 use Rattle.sheet.proofs.Told.{told-sheet, lent}
 use Rattle.splitter.specs.declared.Answer.the-variants as A
 use Rattle.splitter.specs.Answers.{answered}
-use Rattle.splitter.proofs.Checking.{Gives, was-passed, unread, turned-down, too-short, accepted}
-
--- the rows hold the value of the text
-pub record Held (s : List ℕ) (p : Tables) : Type 0 where
-  pub value : Input
-  pub reads : read s ≡ passed value
-  pub told : Told s value p
-  pub bounds : Bounded p
-  pub names : NamesInside s (p .«name_at») (p .«name_len») (p .events)
+use Rattle.splitter.specs.Stages.{Held}
+use Rattle.splitter.proofs.Checking.{was-passed, unread-7, refusal-7, passed-7, Gives, unread, turned-down, too-short, accepted}
 
 -- and the value is past 12
 pub record Judged (s : List ℕ) (p : Tables) (pre post : List ℕ) : Type 0 where
-  pub held : Held s p
+  pub held : Held (read s) s p
   pub passes : refusalTo12 (system (held .value)) (held .value .machines) ≡ none
   pub moves : MovesTold (system (held .value)) (held .value .machines) pre post
 
@@ -52,14 +45,38 @@ unfolding answered verdictRefusal
 refused-reading s out h e = unread s out _ (sym h ∙ ap verdictRefusal e)
 
 pub held : (s : List ℕ) (r : Verdict) (p : Tables) → verdictRefusal r ≡ refusalOf (read s) → r ≡ Passed → p ≡ tablesOf (read s)
-    → ((v : Input) → read s ≡ passed v → Told s v p) → Held s p
+    → ((v : Input) → read s ≡ passed v → Told s v p) → Held (read s) s p
 held s r p h e q told =
     let (v, reads) = was-passed (read s) (sym h ∙ lets-pass e) in
-    record { value = v; reads = reads; told = told v reads; bounds = rw q (bounded s v reads); names = rw q (names-inside s v reads) }
+    record { value = v; passes = reads; told = told v reads; bounds = rw q (bounded s v reads); names = rw q (names-inside s v reads) }
+
+-- ---- what 4 to 7 answer
+
+-- the verdict is that of the check as far as 7, and the rows hold a value that passes it
+abbrev pub AsFarAs7 : List ℕ → Verdict → Tables → Type 0
+AsFarAs7 s r p = (verdictRefusal r ≡ refusalOf (asFarAs7 s)) × (verdictRefusal r ≡ none → Held (asFarAs7 s) s p)
+
+-- refused by 1 to 3
+pub refused-to-3 : {s : List ℕ} {r : Verdict} {p : Tables} {why : D.Refusal} → verdictRefusal r ≡ refusalOf (read s) → r ≡ Refused why → AsFarAs7 s r p
+unfolding verdictRefusal
+refused-to-3 {s} {why = why} h e =
+    let q = ap verdictRefusal e in
+    (q ∙ sym (unread-7 s (tabled why) (sym h ∙ q)), λ n. refuses why (sym q ∙ n))
+
+module _ {s : List ℕ} {p : Tables} (h : Held (read s) s p) where
+  -- what is read and passes 4 to 7 is held as far as 7
+  pub held-7 : systemRefusal (system (h .value)) ≡ none → Held (asFarAs7 s) s p
+  held-7 n = record { value = h .value; passes = passed-7 s (h .value) (h .passes) n; told = h .told; bounds = h .bounds; names = h .names }
+
+  -- the verdict on the rows' transition system is that on the text
+  pub judged-7 : (r : Verdict) → verdictRefusal r ≡ systemRefusal (systemOf p) → AsFarAs7 s r p
+  judged-7 r e =
+      let q : verdictRefusal r ≡ systemRefusal (system (h .value)) = e ∙ ap systemRefusal (h .told .tells-system) in
+      (q ∙ sym (refusal-7 s (h .value) (h .passes)), λ n. held-7 (sym q ∙ n))
 
 -- ---- what 4 to 12 answer
 
-module _ {s : List ℕ} {p : Tables} (h : Held s p) where
+module _ {s : List ℕ} {p : Tables} (h : Held (read s) s p) where
   abbrev machines : Decomposition
   machines = h .value .machines
 
@@ -76,7 +93,7 @@ module _ {s : List ℕ} {p : Tables} (h : Held s p) where
 
     pub refused-value : (out : List ℕ) {why : D.Refusal} → r ≡ Refused why → Gives s out (answered (A.Refused why)) out
     unfolding answered verdictRefusal
-    refused-value out e = turned-down s out (h .value) (h .reads) _ (verdict ∙ ap verdictRefusal e)
+    refused-value out e = turned-down s out (h .value) (h .passes) _ (verdict ∙ ap verdictRefusal e)
 
     pub judged : {pre post : List ℕ} → r ≡ Passed
         → ((ms : Decomposition) → MachinesTold (systemOf p) p ms → verdictRefusal r ≡ none → MovesTold (systemOf p) ms pre post) → Judged s p pre post
@@ -97,14 +114,14 @@ module _ {s : List ℕ} {p : Tables} {pre post : List ℕ} (j : Judged s p pre p
   sheet-told : rowSheet s p pre post ≡ sheet value
   unfolding refusalTo12
   sheet-told =
-      told-sheet s value p pre post (j .held .told) (j .moves) (orElse-none _ _ (orElse-none _ _ (j .passes) .1) .0) (limits s value (j .held .reads))
+      told-sheet s value p pre post (j .held .told) (j .moves) (orElse-none _ _ (orElse-none _ _ (j .passes) .1) .0) (limits s value (j .held .passes))
 
   pub refused-buffer : (out : List ℕ) (size : ℕ) → size ≡ length (rowSheet s p pre post) → length out < size
       → Gives s out (answered (A.Refused (BufferTooShort size))) out
   unfolding answered tabled
   refused-buffer out size e l =
       let q = e ∙ ap length sheet-told in
-      rw q (too-short s out value (j .held .reads) (j .passes) (rw q at l))
+      rw q (too-short s out value (j .held .passes) (j .passes) (rw q at l))
 
   pub written : (out left : List ℕ) (size : ℕ) → size ≡ length (rowSheet s p pre post) → size ≤ length out → left ≡ sets out 0 (rowSheet s p pre post)
       → Gives s out (answered (A.Accepted size)) left
@@ -112,4 +129,4 @@ module _ {s : List ℕ} {p : Tables} {pre post : List ℕ} (j : Judged s p pre p
   written out left size e l w =
       let q = e ∙ ap length sheet-told in
       let fits = rw q at l in
-      rw (q, w, sheet-told, lent out (sheet value) fits) (accepted s out value (j .held .reads) (j .passes) fits)
+      rw (q, w, sheet-told, lent out (sheet value) fits) (accepted s out value (j .held .passes) (j .passes) fits)

@@ -1,2 +1,3 @@
--- `Answers`: the calls' answers in the model's words.
+-- `Answers`: the calls' answers in the model's words. `Stages`: what the code knows between its calls.
 pub mod Answers
+pub mod Stages

@@ -1,21 +1,34 @@
 // The services. Each takes any bytes, and its contract is an equation with the model's definition of it.
 ghost use mathlib.Core.Path.{_≡_};
-ghost use Rattle.model.specs.Cases.{tabled};
+ghost use mathlib.Core.List.{map};
+ghost use mathlib.Core.Option.{none, some};
+ghost use lib.ListN.{length};
+ghost use Rattle.model.specs.Refusal.{refusalOf};
+ghost use Rattle.model.specs.Cases.{tabled, recorded};
 ghost use Rattle.model.specs.Services as Services;
-ghost use Rattle.splitter.specs.Answers.{answered, numbered};
+ghost use Rattle.reader.specs.Tables.{verdictRefusal};
+ghost use Rattle.splitter.specs.Answers.{answered, numbered, PartOf};
+ghost use Rattle.splitter.specs.Stages.{Held, writtenBy, Lists, Named};
 use checker::check_as_far_as_12;
+use listing::NUMBERS;
+use listing::fill;
+use listing::list_transitions;
 use model::Refusal;
+use model::Transition;
+use reader::Reading;
 use reader::Verdict;
 use reader::read;
 use regions::MOVES;
 use regions::NOT_ON;
 use sheet::sheet_len;
 use sheet::write_sheet;
+use transition_system::EXCITATION_WORDS;
+use transition_system::check_transition_system;
 
-// What Check and sheet answers.
+// What a call answers that writes into what was lent.
 pub enum Answer {
     Refused(Refusal),
-    // the sheet stands in so many bytes
+    // so many entries of what was lent are written: the sheet's bytes, or the transitions
     Accepted { size: usize },
 }
 
@@ -81,4 +94,125 @@ pub fn check(text: &[u8], out: &mut [u8]) -> Answer
     }
     write_sheet(text, tables, &pre, &post, out);
     Answer::Accepted { size }
+}
+
+// The text's rows, and its refusal as far as 7.
+fn read_as_far_as_7(text: &[u8]) -> Reading
+    ensures { λ r. ⌜ verdictRefusal (r .verdict) ≡ refusalOf (Services.asFarAs7 (now (text .entry))) ⌝ }
+    ensures { λ r. ⌜ (verdictRefusal (r .verdict) ≡ none → Held (Services.asFarAs7 (now (text .entry))) (now (text .entry)) (r .tables)) ⌝ }
+{
+    let reading = read(text);
+    let form = reading.verdict;
+    if let Verdict::Refused(_) = form {
+        return reading;
+    }
+    let tables = reading.tables;
+    let mut excited = [0u64; EXCITATION_WORDS];
+    let verdict = check_transition_system(tables, &mut excited);
+    Reading { verdict, tables }
+}
+
+// What Steps answers where `room` records are lent, and the transitions' numbers if they fit.
+fn list(text: &[u8], room: usize, numbers: &mut [u8]) -> Answer
+    requires { ⌜ length (now numbers) ≡ 3072 ⌝ }
+    ensures { λ r. ⌜ Lists (now (text .entry)) room (now (numbers .exit)) r ⌝ }
+{
+    let reading = read_as_far_as_7(text);
+    let verdict = reading.verdict;
+    if let Verdict::Refused(why) = verdict {
+        return Answer::Refused(why);
+    }
+    let tables = reading.tables;
+    let needed = tables.transitions;
+    if room < needed {
+        return Answer::Refused(Refusal::BufferTooShort { needed });
+    }
+    list_transitions(
+        &tables.source,
+        &tables.event,
+        &tables.target,
+        needed,
+        numbers,
+    );
+    Answer::Accepted { size: needed }
+}
+
+// How many entries are written.
+fn written(answer: Answer) -> usize
+    ensures { λ r. ⌜ r ≡ writtenBy answer ⌝ }
+{
+    match answer {
+        Answer::Refused(_) => 0,
+        Answer::Accepted { size } => size,
+    }
+}
+
+// Steps: the transitions, in line order, into the first records lent; or the refusal and no record changed.
+pub fn steps(text: &[u8], out: &mut [Transition]) -> Answer
+    ensures { λ r. ⌜ (answered r ≡ Services.steps (now (text .entry)) (map recorded (now (out .entry))) .answer)
+        × (map recorded (now (out .exit)) ≡ Services.steps (now (text .entry)) (map recorded (now (out .entry))) .left) ⌝ }
+{
+    let mut numbers = [0u8; NUMBERS];
+    let answer = list(text, out.len(), &mut numbers);
+    let count = written(answer);
+    fill(out, &numbers, count);
+    answer
+}
+
+// Where a name stands in the text, or the refusal and the empty part at the text's beginning.
+struct NamePart {
+    verdict: Verdict,
+    from: usize,
+    end: usize,
+}
+
+fn no_part(why: Refusal) -> NamePart
+    ensures { λ r. ⌜ verdictRefusal (r .verdict) ≡ some (tabled why) ⌝ }
+    ensures { λ r. ⌜ (r .from ≡ 0) × (r .end ≡ 0) ⌝ }
+{
+    NamePart {
+        verdict: Verdict::Refused(why),
+        from: 0,
+        end: 0,
+    }
+}
+
+fn find_name(text: &[u8], event: usize) -> NamePart
+    ensures { λ r. ⌜ Named (now (text .entry)) event r ⌝ }
+{
+    let reading = read_as_far_as_7(text);
+    let verdict = reading.verdict;
+    if let Verdict::Refused(why) = verdict {
+        return no_part(why);
+    }
+    let tables = reading.tables;
+    if event < tables.events {
+        let from = tables.name_at[event];
+        let end = from + tables.name_len[event];
+        NamePart {
+            verdict: Verdict::Passed,
+            from,
+            end,
+        }
+    } else {
+        no_part(Refusal::UnknownEvent { position: 0 })
+    }
+}
+
+// Name: the event's name as the caller's own bytes, or the empty part at the text's beginning; `name_refusal` then says why.
+pub fn name(text: &[u8], event: usize) -> &[u8]
+    ensures { λ r. ⌜ PartOf (text .entry) (Services.handedBack (Services.name (now (text .entry)) event)) r ⌝ }
+{
+    let part = find_name(text, event);
+    let from = part.from;
+    let end = part.end;
+    &text[from..end]
+}
+
+// The refusal of Name; Passed where nothing is refused.
+pub fn name_refusal(text: &[u8], event: usize) -> Verdict
+    ensures { λ r. ⌜ verdictRefusal r ≡ Services.nameRefusal (now (text .entry)) event ⌝ }
+{
+    let part = find_name(text, event);
+    part.verdict
 }

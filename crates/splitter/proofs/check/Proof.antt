@@ -7,12 +7,14 @@ use denote.Ref.{now}
 use lib.ListN.{length}
 use Rattle.reader.specs.declared.Tables.{Tables}
 use Rattle.sheet.specs.Written.{rowSheet}
-use Rattle.splitter.proofs.Stages.{Held, Judged, refused-reading, held, refused-value, judged, refused-buffer, written}
+use Rattle.model.specs.Text.{read}
+use Rattle.splitter.specs.Stages.{Held}
+use Rattle.splitter.proofs.Stages.{Judged, refused-reading, held, refused-value, judged, refused-buffer, written}
 use Rattle.splitter.proofs.check.Statement.{statement}
 use Rattle.splitter.proofs.check.Tie as tie
 
 -- the text is read
-reading : (c : tie.After-enum-told) → Held (now (c .before .before .before .before .before .args .text)) (c .before .before .read .result .tables)
+reading : (c : tie.After-enum-told) → Held (read (now (c .before .before .before .before .before .args .text))) (now (c .before .before .before .before .before .args .text)) (c .before .before .read .result .tables)
 reading c =
     let r = c .before .before .read in
     held _ _ _ (r .ensures .0) (c .enum-told .given .1) (r .ensures .1 .0) (r .ensures .1 .1)

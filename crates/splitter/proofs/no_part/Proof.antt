@@ -1,0 +1,12 @@
+-- `splitter::no_part` meets its contract: the part is the empty one at the text's beginning.
+use mathlib.Core.Path.{refl}
+use Rattle.reader.specs.Tables.{verdictRefusal}
+use Rattle.splitter.proofs.no_part.Statement.{statement}
+use Rattle.splitter.proofs.no_part.Tie as tie
+
+returns : tie.Need-returns
+unfolding verdictRefusal
+returns c = (refl, (refl, refl))
+
+pub no-part-spec : {M : Type 1} → statement M
+no-part-spec = tie.close (tie.spec returns)

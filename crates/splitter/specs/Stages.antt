@@ -1,0 +1,47 @@
+-- What the code knows between its calls.
+use Prim.Native.Nat.{ℕ, _+_, _*_, _≤_}
+use mathlib.Core.Path.{_≡_}
+use mathlib.Core.List.{List, _++_, map}
+use lib.ListN.{length, drop}
+use Rattle.model.specs.Refusal.{Checked, passed}
+use Rattle.model.specs.Cases.{recorded}
+use Rattle.model.specs.TransitionSystem.{Transition}
+use Rattle.model.specs.Text.{Input}
+use Rattle.model.specs.Services.{steps, name, handedBack, nameRefusal}
+use Rattle.reader.specs.declared.Tables.{Tables}
+use Rattle.reader.specs.Tables.{verdictRefusal}
+use Rattle.reader.specs.Told.{Told}
+use Rattle.reader.specs.Bounded.{Bounded, NamesInside}
+use Rattle.listing.specs.Records.{firstRecords}
+use Rattle.splitter.specs.declared.Answer.{Answer}
+use Rattle.splitter.specs.declared.Answer.the-variants.{Refused, Accepted}
+use Rattle.splitter.specs.declared.NamePart.{NamePart}
+use Rattle.splitter.specs.Answers.{answered}
+
+-- the text has passed this check, and the rows hold its value
+pub record Held (checked : Checked Input) (s : List ℕ) (p : Tables) : Type 0 where
+  pub value : Input
+  pub passes : checked ≡ passed value
+  pub told : Told s value p
+  pub bounds : Bounded p
+  pub names : NamesInside s (p .«name_at») (p .«name_len») (p .events)
+
+-- how many entries an answer says were written
+unfoldable pub writtenBy : Answer → ℕ
+writtenBy (Refused why) = 0
+writtenBy (Accepted size) = size
+
+-- Steps is answered by r if `room` records are lent, and the numbers are those of the records to be written
+pub record Lists (s : List ℕ) (room : ℕ) (numbers : List ℕ) (r : Answer) : Type 0 where
+  pub answer : (out : List Transition) → length out ≡ room → answered r ≡ steps s out .answer
+  pub left : (out : List Transition) → length out ≡ room
+      → map recorded (firstRecords numbers (writtenBy r)) ++ drop (writtenBy r) out ≡ steps s out .left
+  pub fits : writtenBy r ≤ room
+  pub inside : 3 * writtenBy r ≤ length numbers
+
+-- r has the refusal of Name, and the part that it hands back
+pub record Named (s : List ℕ) (e : ℕ) (r : NamePart) : Type 0 where
+  pub verdict : verdictRefusal (r .verdict) ≡ nameRefusal s e
+  pub begins : r .from ≡ handedBack (name s e) .from
+  pub ends : r .end ≡ handedBack (name s e) .from + handedBack (name s e) .size
+  pub inside : r .end ≤ length s
