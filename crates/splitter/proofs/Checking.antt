@@ -4,7 +4,6 @@ use Prim.Native.Nat.{ℕ, _<_, _≤_}
 use mathlib.Core.Path.{_≡_, refl, ap, sym}
 use mathlib.Core.List.{List, _++_}
 use mathlib.Core.Option.{Option, none, some, Option·some-ne-none, Option·some-injective, orElse}
-use borrow.Author.Tests.{le-leb, lt-leb}
 use lib.ListN.{length, drop}
 use Rattle.model.specs.Refusal.{Refusal, refuse, Checked, refused, passed, unless, refusalOf, _>>=_, _>>_}
 use Rattle.model.specs.TransitionSystem.{systemRefusal}
@@ -13,6 +12,7 @@ use Rattle.model.specs.Text.{Input, system, read}
 use Rattle.model.specs.Sheet.{sheet}
 use Rattle.model.specs.Services.{asFarAs7, asFarAs10, asFarAs12, lend, check}
 use Rattle.checker.specs.Order.{refusalTo12}
+use Rattle.splitter.proofs.Lending.{lent-all, lent-none}
 
 -- what passed, if nothing is refused
 pub was-passed : {A : Type 0} (c : Checked A) → refusalOf c ≡ none → (a : A) × (c ≡ passed a)
@@ -90,9 +90,7 @@ module _ (s out : List ℕ) where
 
       -- refused by 13
       pub too-short : length out < length (sheet v) → Gives (refused (refuse 13 (length (sheet v)) 0)) out
-      unfolding lend
-      too-short l = rw (lends-sheet, lt-leb (length (sheet v)) (length out) l) (refl, refl)
+      too-short l = rw (lends-sheet, lent-none (sheet v) out l) (refl, refl)
 
       pub accepted : length (sheet v) ≤ length out → Gives (passed (length (sheet v))) (sheet v ++ drop (length (sheet v)) out)
-      unfolding lend
-      accepted l = rw (lends-sheet, le-leb (length (sheet v)) (length out) l) (refl, refl)
+      accepted l = rw (lends-sheet, lent-all (sheet v) out l) (refl, refl)

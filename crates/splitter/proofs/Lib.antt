@@ -1,5 +1,7 @@
 -- The laws behind the services.
 
+-- a call that lends a list, by whether what it writes fits
+pub mod Lending
 -- Check and sheet, and the check as far as 7, by the reading of the text and by what the later checks say of its value
 pub mod Checking
 -- what the code knows of the text at each stage, and its answers
@@ -8,8 +10,6 @@ pub mod Stages
 pub mod Listing
 -- what Steps leaves, from the numbers listed and the records filled
 pub mod Records
--- the entry of a function that is walked by hand
-pub mod Enter
 -- Name, by its ways out
 pub mod Naming
 -- answers that the model takes for the same are the same

@@ -3,7 +3,6 @@ use Prim.Native.Nat.{ℕ, _*_, _<_, _≤_}
 use native.Mathlib.Omega.{arith}
 use mathlib.Core.Path.{_≡_, ap, sym, _∙_}
 use mathlib.Core.List.{List, map}
-use borrow.Author.Tests.{le-leb, lt-leb}
 use lib.ListN.{length}
 use Rattle.model.specs.declared.Refusal as D
 use Rattle.model.specs.declared.Refusal.the-variants.{BufferTooShort}
@@ -21,6 +20,7 @@ use Rattle.listing.specs.Records.{firstRecords}
 use Rattle.splitter.specs.declared.Answer.the-variants as A
 use Rattle.splitter.specs.Answers.{answered}
 use Rattle.splitter.specs.Stages.{Held, writtenBy, Lists}
+use Rattle.splitter.proofs.Lending.{lent-all, lent-none}
 use Rattle.splitter.proofs.Checking.{was-refused}
 
 -- refused by 1 to 7
@@ -37,12 +37,12 @@ module _
     {n : ℕ} (counted : n ≡ length xs) where
   -- with room for fewer
   too-few : {room : ℕ} {numbers : List ℕ} → room < n → Lists s room numbers (A.Refused (BufferTooShort n))
-  unfolding answered tabled writtenBy firstRecords lend
+  unfolding answered tabled writtenBy firstRecords
   too-few {room} l =
       let short : (out : List Transition) → length out ≡ room → length out < length xs = λ out e. omega arith in
       record {
-        answer = λ out e. rw (lends out, lt-leb (length xs) (length out) (short out e), counted);
-        left = λ out e. rw (lends out, lt-leb (length xs) (length out) (short out e));
+        answer = λ out e. rw (lends out, lent-none xs out (short out e), counted);
+        left = λ out e. rw (lends out, lent-none xs out (short out e));
         fits = omega arith;
         inside = omega arith;
       }
@@ -50,12 +50,12 @@ module _
   -- with room for all
   all : {room : ℕ} {numbers : List ℕ} → n ≤ room → 3 * n ≤ length numbers → map recorded (firstRecords numbers n) ≡ xs
       → Lists s room numbers (A.Accepted n)
-  unfolding answered writtenBy lend
+  unfolding answered writtenBy
   all {room} l i w =
       let enough : (out : List Transition) → length out ≡ room → length xs ≤ length out = λ out e. omega arith in
       record {
-        answer = λ out e. rw (lends out, le-leb (length xs) (length out) (enough out e), counted);
-        left = λ out e. rw (lends out, le-leb (length xs) (length out) (enough out e), w, counted);
+        answer = λ out e. rw (lends out, lent-all xs out (enough out e), counted);
+        left = λ out e. rw (lends out, lent-all xs out (enough out e), w, counted);
         fits = l;
         inside = i;
       }

@@ -143,7 +143,7 @@ fn written(answer: Answer) -> usize
 {
     match answer {
         Answer::Refused(_) => 0,
-        Answer::Accepted { size } => size,
+        Answer::Accepted { size: count } => count,
     }
 }
 
