@@ -1,15 +1,16 @@
 // Calls Steps and Name on texts from standard input and writes their answers, with every record that was lent.
 // Before each text stand how many records are lent (two bytes), the event asked for (eight bytes) and the text's length (two bytes).
 ghost use Prim.Native.Nat.{_≤_};
-ghost use lib.ListN.{length};
-use libc::STDIN_FILENO;
-use libc::STDOUT_FILENO;
 use model::MAX_TRANSITIONS;
 use model::Refusal;
 use model::Transition;
 use reader::Verdict;
 use reader::wide;
 use splitter::Answer;
+use test_io::load;
+use test_io::put;
+use test_io::put_number;
+use test_io::size;
 
 // What a caller of Steps has: the answer, and its records.
 struct Listed {
@@ -24,15 +25,6 @@ fn lend(text: &[u8], blank: Transition, room: usize) -> Listed
     let mut records = [blank; MAX_TRANSITIONS];
     let answer = splitter::steps(text, &mut records[..room]);
     Listed { answer, records }
-}
-
-fn put(word: &[u8]) {
-    io::write_all(STDOUT_FILENO, word);
-}
-
-fn put_number(n: usize) {
-    put(b" ");
-    io::print_decimal(STDOUT_FILENO, n as u64);
 }
 
 fn put_refusal(why: Refusal) {
@@ -99,7 +91,7 @@ fn answer(text: &[u8], room: usize, event: usize)
     put_name(text, event);
 }
 
-// A number of n bytes, the highest first.
+// The number that these bytes give, the highest first; of more than eight the last eight count.
 fn number(bytes: &[u8]) -> usize {
     let mut n = 0;
     let mut k = 0;
@@ -110,25 +102,17 @@ fn number(bytes: &[u8]) -> usize {
     n
 }
 
-// The next m bytes of the input, at the start of text.
-fn load(text: &mut [u8], m: usize) -> bool
-    requires { ⌜ m ≤ length (now text) ⌝ }
-{
-    let n = io::read_full(STDIN_FILENO, &mut text[..m]);
-    n == m
-}
-
 // One call; false at the end of the input, or if more records are to be lent than the program has.
 fn one() -> bool {
     let mut head = [0u8; 12];
     if !load(&mut head, 12) {
         return false;
     }
-    let room = number(&head[0..2]);
+    let room = size(head[0], head[1]);
     let event = number(&head[2..10]);
-    let m = number(&head[10..12]);
+    let m = size(head[10], head[11]);
     let mut text = [0u8; 65535];
-    if room > MAX_TRANSITIONS || m > 65535 || !load(&mut text, m) {
+    if room > MAX_TRANSITIONS || !load(&mut text, m) {
         return false;
     }
     answer(&text[..m], room, event);

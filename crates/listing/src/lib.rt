@@ -33,7 +33,7 @@ pub fn list_transitions<'a>(
 }
 
 // Record i of the row.
-pub fn record_at(numbers: &[u8], i: usize) -> Transition
+fn record_at(numbers: &[u8], i: usize) -> Transition
     requires { ⌜ 3 * i + 2 < length (now numbers) ⌝ }
     ensures { λ r. ⌜ r ≡ recordAt (now (numbers .entry)) i ⌝ }
 {

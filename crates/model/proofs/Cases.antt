@@ -2,7 +2,7 @@
 use Prim.Native.Nat.{ℕ}
 use mathlib.Core.Path.{_≡_, refl, ap, sym, _∙_}
 use mathlib.Core.Bool.{cond}
-use mathlib.Core.List.{List, [], _∷_, map}
+use mathlib.Core.List.{List, map}
 use lib.Dec.{eqb}
 use Rattle.model.specs.declared.Refusal as D
 use Rattle.model.specs.declared.Refusal.the-variants as C
@@ -10,6 +10,7 @@ use Rattle.model.specs.Refusal.{Refusal}
 use Rattle.model.specs.declared.Transition as T
 use Rattle.model.specs.TransitionSystem.{Transition}
 use Rattle.model.specs.Cases.{tabled, recorded}
+use Rattle.model.proofs.ListLaws.{map-map, map-same}
 
 -- the case with this number and these details
 caseOf : Refusal → D.Refusal
@@ -67,5 +68,4 @@ unfolding recorded
 records-injective xs ys e = sym (back xs) ∙ ap (map recordOf) e ∙ back ys
   where
     back : (zs : List T.Transition) → map recordOf (map recorded zs) ≡ zs
-    back [] = refl
-    back (z ∷ zs) = ap (λ (l : List T.Transition). z ∷ l) (back zs)
+    back zs = map-map recordOf recorded zs ∙ map-same _ zs (λ z m. refl)

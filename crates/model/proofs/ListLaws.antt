@@ -1,11 +1,18 @@
 -- Laws of images, of what is put together, and of the last element.
+use Prim.Native.Nat.{ℕ, zero, suc}
 use mathlib.Core.Path.{_≡_, refl, ap, sym, _∙_}
 use mathlib.Core.List.{List, [], _∷_, _++_, map, flatMap, append-assoc, List·Memᴰ, List·Memᴰ·head, List·Memᴰ·tail}
+use lib.ListN.{drop}
 
 module _ {A B : Type 0} where
   pub map-append : (g : A → B) (a b : List A) → map g (a ++ b) ≡ map g a ++ map g b
   map-append g [] b = refl
   map-append g (x ∷ a) b = ap (λ (l : List B). g x ∷ l) (map-append g a b)
+
+  pub map-drop : (g : A → B) (k : ℕ) (l : List A) → map g (drop k l) ≡ drop k (map g l)
+  map-drop g zero l = refl
+  map-drop g (suc k) [] = refl
+  map-drop g (suc k) (x ∷ l) = map-drop g k l
 
   -- an element of an image
   pub map-mem : (g : A → B) (l : List A) (y : B) → List·Memᴰ y (map g l) → (x : A) × List·Memᴰ x l × (y ≡ g x)

@@ -14,7 +14,6 @@ pub const MAX_MACHINES: usize = 16;
 pub const MAX_PLACES: usize = 64;
 
 // A step record, as a caller lends it. Document 01: from-state, event number, to-state.
-#[repr(C)]
 pub struct Transition {
     pub source: u8,
     pub event: u8,

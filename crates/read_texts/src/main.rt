@@ -1,21 +1,13 @@
 // Reads texts from standard input, each after its length in two bytes, and writes what the reader answers to each.
-ghost use Prim.Native.Nat.{_≤_, _<_};
-ghost use lib.ListN.{length};
-use libc::STDIN_FILENO;
-use libc::STDOUT_FILENO;
+ghost use Prim.Native.Nat.{_<_};
 use model::Refusal;
 use reader::Tables;
 use reader::Verdict;
 use reader::wide;
-
-fn put(word: &[u8]) {
-    io::write_all(STDOUT_FILENO, word);
-}
-
-fn put_number(n: usize) {
-    put(b" ");
-    io::print_decimal(STDOUT_FILENO, n as u64);
-}
+use test_io::load;
+use test_io::put;
+use test_io::put_number;
+use test_io::size;
 
 // The numbers of a refusal by 1, 2 or 3; others do not come from the reader.
 fn put_refusal(why: Refusal) {
@@ -119,20 +111,6 @@ fn answer(text: &[u8]) {
             put_tables(p)
         }
     }
-}
-
-fn size(hi: u8, lo: u8) -> usize
-    ensures { λ r. ⌜ r ≤ 65535 ⌝ }
-{
-    wide(hi) * 256 + wide(lo)
-}
-
-// The next m bytes of the input, at the start of text.
-fn load(text: &mut [u8], m: usize) -> bool
-    requires { ⌜ m ≤ length (now text) ⌝ }
-{
-    let n = io::read_full(STDIN_FILENO, &mut text[..m]);
-    n == m
 }
 
 // One text; false at the end of the input.

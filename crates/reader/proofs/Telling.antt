@@ -150,3 +150,18 @@ told s v e = let r = read-iff s v .0 e in rw (e, r .0) (value-told v (r .1))
 pub answering : (s : List ℕ) (r : Reading) → Answers (read s) r
     → (verdictRefusal (r .verdict) ≡ refusalOf (read s)) × ((r .tables ≡ tablesOf (read s)) × ((v : Input) → read s ≡ passed v → Told s v (r .tables)))
 answering s r a = (a .verdict, (a .rows, λ v e. subst (Told s v) (sym (a .rows)) (told s v e)))
+
+-- ---- what is told of the transition system, part by part
+
+module _ {s : List ℕ} {v : Input} {p : Tables} (told : Told s v p) where
+  pub told-events : p .events ≡ length (v .names)
+  unfolding systemOf
+  told-events = ap (λ (t : TransitionSystem). t .events) (told .tells-system)
+
+  pub told-initial : p .initial ≡ v .initial
+  unfolding systemOf
+  told-initial = ap (λ (t : TransitionSystem). t .initial) (told .tells-system)
+
+  pub told-transitions : firstTransitions (p .source) (p .event) (p .target) (p .transitions) ≡ v .transitions
+  unfolding systemOf
+  told-transitions = ap (λ (t : TransitionSystem). t .transitions) (told .tells-system)

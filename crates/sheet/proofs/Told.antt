@@ -2,24 +2,21 @@
 use Prim.Native.Nat.{ℕ, zero, suc, _+_, _*_, _<_, _≤_}
 use native.Mathlib.Omega.{arith}
 use mathlib.Core.Path.{_≡_, refl, ap, _∙_}
-use mathlib.Core.Bool.{Bool, true, false, cond}
-use mathlib.Core.List.{List, [], _++_, flatten}
-use mathlib.Core.Option.{none, some, Option·none-ne-some, Option·some-injective}
-use lib.Dec.{eqb}
+use mathlib.Core.List.{List, [], _++_}
+use mathlib.Core.Option.{none}
 use lib.ListN.{length, take, drop}
 use lib.Seq.{sets, sets-eq, take-suc, take-length}
-use Rattle.model.specs.Lists.{At, elem}
+use Rattle.model.specs.Lists.{At}
 use Rattle.model.specs.TransitionSystem.{TransitionSystem}
 use Rattle.model.specs.Machine.{Machine, placeOf, move, machinesRefusal}
 use Rattle.model.specs.Text.{Input, system, Limits}
 use Rattle.model.specs.Sheet.{movesBelow, sheetLine, sheetLines, sheet}
-use Rattle.model.proofs.Laws.{T-true}
 use Rattle.model.proofs.Positions.{below-at, at-mem, at-value}
 use Rattle.model.proofs.Passed.{machines-good}
 use Rattle.model.proofs.Sheets.{at-lines, lines-length}
 use Rattle.reader.specs.declared.Tables.{Tables}
-use Rattle.reader.specs.Told.{entry, systemOf, nameOf, Told}
-use Rattle.reader.proofs.Telling.{placed-at}
+use Rattle.reader.specs.Told.{entry, nameOf, Told}
+use Rattle.reader.proofs.Telling.{placed-at, told-events, told-initial}
 use Rattle.regions.specs.Moves.{moveAt, MovesTold}
 use Rattle.sheet.specs.Written.{namesIn, rowNames, rowMoves, rowLine, rowLines, rowSheet}
 
@@ -32,14 +29,6 @@ moves-told ts m pre post k (suc n) h = rw (h n (omega arith), moves-told ts m pr
 
 module _ (s : List ℕ) (v : Input) (p : Tables) (pre post : List ℕ) (told : Told s v p) (moves : MovesTold (system v) (v .machines) pre post)
     (passes : machinesRefusal (system v) 0 (v .machines) ≡ none) (l : Limits v) where
-  events-told : p .events ≡ length (v .names)
-  unfolding systemOf
-  events-told = ap (λ (t : TransitionSystem). t .events) (told .tells-system)
-
-  initial-told : p .initial ≡ v .initial
-  unfolding systemOf
-  initial-told = ap (λ (t : TransitionSystem). t .initial) (told .tells-system)
-
   names-told : (n : ℕ) → n ≤ length (v .names) → namesIn s (p .«name_at») (p .«name_len») n ≡ take n (v .names)
   unfolding namesIn nameOf
   names-told zero h = refl
@@ -48,7 +37,7 @@ module _ (s : List ℕ) (v : Input) (p : Tables) (pre post : List ℕ) (told : T
   -- the state is listed, since the machine passes 9
   start-told : (k : ℕ) (m : Machine) → At (v .machines) k m → entry (p .place) (k * 256 + p .initial) ≡ placeOf m (v .initial)
   start-told k m a =
-      rw initial-told
+      rw (told-initial told)
       (placed-at (told .tells-machines .machine k m a) (v .initial) (omega (arith, l .initial))
       (machines-good (system v) 0 (v .machines) passes m (at-mem (v .machines) k m a) .base .placed (v .initial) (omega (arith, l .initial, l .states-least))))
 
@@ -58,7 +47,7 @@ module _ (s : List ℕ) (v : Input) (p : Tables) (pre post : List ℕ) (told : T
       rw (
         told .tells-machines .machine k m a .places,
         start-told k m a,
-        events-told,
+        told-events told,
         moves-told (system v) m pre post k (length (v .names)) (λ e h. moves .move k e m a h),
       )
 
@@ -76,7 +65,7 @@ module _ (s : List ℕ) (v : Input) (p : Tables) (pre post : List ℕ) (told : T
       rw (take-suc ls n x low, at-value ls n x x b, lines-told n (omega arith), line-told n m a, ← at-lines (system v) ms 0 n m x a b, z)
 
   all-names : rowNames s p ≡ v .names
-  all-names = rw (events-told, names-told (length (v .names)) (omega arith), take-length (v .names))
+  all-names = rw (told-events told, names-told (length (v .names)) (omega arith), take-length (v .names))
 
   all-lines : rowLines p pre post (p .machines) ≡ sheetLines (system v) 0 (v .machines)
   all-lines =

@@ -1,16 +1,21 @@
 -- The check as far as 7, and Check and sheet, in the model's words, by what the code finds out on its way: whether the text is read, what 4 to 12 say of its
 -- value, and whether the sheet fits.
 use Prim.Native.Nat.{ℕ, _<_, _≤_}
-use mathlib.Core.Path.{_≡_, refl, ap, sym}
+use mathlib.Core.Path.{_≡_, refl, ap, sym, _∙_}
 use mathlib.Core.List.{List, _++_}
 use mathlib.Core.Option.{Option, none, some, Option·some-ne-none, Option·some-injective, orElse}
 use lib.ListN.{length, drop}
+use Rattle.model.specs.declared.Refusal as D
+use Rattle.model.specs.Cases.{tabled}
 use Rattle.model.specs.Refusal.{Refusal, refuse, Checked, refused, passed, unless, refusalOf, _>>=_, _>>_}
 use Rattle.model.specs.TransitionSystem.{systemRefusal}
 use Rattle.model.specs.Machine.{machinesRefusal, coverRefusal}
 use Rattle.model.specs.Text.{Input, system, read}
 use Rattle.model.specs.Sheet.{sheet}
 use Rattle.model.specs.Services.{asFarAs7, asFarAs10, asFarAs12, lend, check}
+use Rattle.reader.specs.declared.Verdict.{Verdict}
+use Rattle.reader.specs.declared.Verdict.the-variants.{Refused}
+use Rattle.reader.specs.Tables.{verdictRefusal}
 use Rattle.checker.specs.Order.{refusalTo12}
 use Rattle.splitter.proofs.Lending.{lent-all, lent-none}
 
@@ -19,9 +24,14 @@ pub was-passed : {A : Type 0} (c : Checked A) → refusalOf c ≡ none → (a : 
 was-passed (refused r) e = absurd (Option·some-ne-none r e)
 was-passed (passed a) e = (a, refl)
 
-pub was-refused : {A : Type 0} (c : Checked A) (r : Refusal) → refusalOf c ≡ some r → c ≡ refused r
+was-refused : {A : Type 0} (c : Checked A) (r : Refusal) → refusalOf c ≡ some r → c ≡ refused r
 was-refused (refused q) r e = ap refused (Option·some-injective q r e)
 was-refused (passed a) r e = absurd (Option·some-ne-none r (sym e))
+
+-- what a verdict refuses is refused
+pub refused-as : {A : Type 0} {c : Checked A} {r : Verdict} {why : D.Refusal} → verdictRefusal r ≡ refusalOf c → r ≡ Refused why → c ≡ refused (tabled why)
+unfolding verdictRefusal
+refused-as {c = c} h e = was-refused c _ (sym h ∙ ap verdictRefusal e)
 
 -- three checks, one after the other, are one
 joined : (v : Input) (a : Option Refusal) (f g : Input → Option Refusal)

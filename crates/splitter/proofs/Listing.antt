@@ -8,27 +8,28 @@ use Rattle.model.specs.declared.Refusal as D
 use Rattle.model.specs.declared.Refusal.the-variants.{BufferTooShort}
 use Rattle.model.specs.Cases.{tabled, recorded}
 use Rattle.model.specs.Refusal.{refused, passed, refusalOf}
-use Rattle.model.specs.TransitionSystem.{Transition, TransitionSystem}
+use Rattle.model.specs.TransitionSystem.{Transition}
 use Rattle.model.specs.Services.{asFarAs7, lend, steps}
 use Rattle.reader.specs.declared.Verdict.{Verdict}
 use Rattle.reader.specs.declared.Verdict.the-variants.{Refused}
 use Rattle.reader.specs.declared.Tables.{Tables}
 use Rattle.reader.specs.Tables.{verdictRefusal}
-use Rattle.reader.specs.Told.{firstTransitions, systemOf}
+use Rattle.reader.specs.Told.{firstTransitions}
 use Rattle.reader.proofs.Fronts.{front-length}
+use Rattle.reader.proofs.Telling.{told-transitions}
 use Rattle.listing.specs.Records.{firstRecords}
 use Rattle.splitter.specs.declared.Answer.the-variants as A
 use Rattle.splitter.specs.Answers.{answered}
 use Rattle.splitter.specs.Stages.{Held, writtenBy, Lists}
 use Rattle.splitter.proofs.Lending.{lent-all, lent-none}
-use Rattle.splitter.proofs.Checking.{was-refused}
+use Rattle.splitter.proofs.Checking.{refused-as}
 
 -- refused by 1 to 7
 pub lists-refusal : {s : List ℕ} {room : ℕ} {numbers : List ℕ} {r : Verdict} {why : D.Refusal} → verdictRefusal r ≡ refusalOf (asFarAs7 s)
     → r ≡ Refused why → Lists s room numbers (A.Refused why)
-unfolding answered writtenBy firstRecords verdictRefusal steps lend
+unfolding answered writtenBy firstRecords steps lend
 lists-refusal {s} {why = why} h e =
-    let q : asFarAs7 s ≡ refused (tabled why) = was-refused (asFarAs7 s) (tabled why) (sym h ∙ ap verdictRefusal e) in
+    let q : asFarAs7 s ≡ refused (tabled why) = refused-as h e in
     record { answer = λ out l. rw q; left = λ out l. rw q; fits = omega arith; inside = omega arith }
 
 -- a text past 7, which gives n transitions
@@ -48,10 +49,10 @@ module _
       }
 
   -- with room for all
-  all : {room : ℕ} {numbers : List ℕ} → n ≤ room → 3 * n ≤ length numbers → map recorded (firstRecords numbers n) ≡ xs
+  fitting : {room : ℕ} {numbers : List ℕ} → n ≤ room → 3 * n ≤ length numbers → map recorded (firstRecords numbers n) ≡ xs
       → Lists s room numbers (A.Accepted n)
   unfolding answered writtenBy
-  all {room} l i w =
+  fitting {room} l i w =
       let enough : (out : List Transition) → length out ≡ room → length xs ≤ length out = λ out e. omega arith in
       record {
         answer = λ out e. rw (lends out, lent-all xs out (enough out e), counted);
@@ -61,14 +62,9 @@ module _
       }
 
 module _ {s : List ℕ} {p : Tables} (h : Held (asFarAs7 s) s p) where
-  -- the rows give the value's transitions
-  same : firstTransitions (p .source) (p .event) (p .target) (p .transitions) ≡ h .value .transitions
-  unfolding systemOf
-  same = ap (λ (t : TransitionSystem). t .transitions) (h .told .tells-system)
-
-  -- their count is that of the rows
+  -- the rows count the value's transitions
   counted : p .transitions ≡ length (h .value .transitions)
-  counted = sym (front-length (p .source) (p .event) (p .target) (p .transitions)) ∙ ap length same
+  counted = sym (front-length (p .source) (p .event) (p .target) (p .transitions)) ∙ ap length (told-transitions (h .told))
 
   -- Steps lends them
   lends : (out : List Transition) → steps s out ≡ lend (passed (h .value .transitions)) out
@@ -83,4 +79,4 @@ module _ {s : List ℕ} {p : Tables} (h : Held (asFarAs7 s) s p) where
   pub lists-all : {room : ℕ} {numbers : List ℕ} → p .transitions ≤ room → 3 * p .transitions ≤ length numbers
       → map recorded (firstRecords numbers (p .transitions)) ≡ firstTransitions (p .source) (p .event) (p .target) (p .transitions)
       → Lists s room numbers (A.Accepted (p .transitions))
-  lists-all l i w = all _ lends counted l i (w ∙ same)
+  lists-all l i w = fitting _ lends counted l i (w ∙ told-transitions (h .told))

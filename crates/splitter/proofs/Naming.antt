@@ -5,29 +5,24 @@ use borrow.Author.Tests.{lt-ltb, le-ltb}
 use denote.Ref.{RefT, now, ptr}
 use mathlib.Core.Path.{_≡_, ap, sym, _∙_}
 use mathlib.Core.List.{List, []}
-use mathlib.Core.Option.{some}
 use lib.ListN.{length, getD, take, drop}
 use Rattle.model.specs.declared.Refusal as D
 use Rattle.model.specs.declared.Refusal.the-variants.{UnknownEvent}
 use Rattle.model.specs.Cases.{tabled}
 use Rattle.model.specs.Refusal.{refused, passed, refusalOf}
-use Rattle.model.specs.TransitionSystem.{TransitionSystem}
 use Rattle.model.specs.Text.{Input}
 use Rattle.model.specs.Services.{asFarAs7, name, handedBack, nameRefusal}
 use Rattle.reader.specs.declared.Verdict.{Verdict}
 use Rattle.reader.specs.declared.Verdict.the-variants.{Refused, Passed}
 use Rattle.reader.specs.declared.Tables.{Tables}
 use Rattle.reader.specs.Tables.{verdictRefusal}
-use Rattle.reader.specs.Told.{entry, systemOf, nameOf}
+use Rattle.reader.specs.Told.{entry, nameOf}
+use Rattle.reader.proofs.Telling.{told-events}
 use Rattle.sheet.proofs.Moving.{name-inside, length-name}
 use Rattle.splitter.specs.declared.NamePart.{NamePart}
 use Rattle.splitter.specs.Answers.{PartOf}
-use Rattle.splitter.specs.Stages.{Held, Named}
-use Rattle.splitter.proofs.Checking.{was-refused}
-
--- the part that the code hands back where it refuses
-abbrev pub NoPart : D.Refusal → NamePart → Type 0
-NoPart why r = (verdictRefusal (r .verdict) ≡ some (tabled why)) × ((r .from ≡ 0) × (r .end ≡ 0))
+use Rattle.splitter.specs.Stages.{Held, NoPart, Named}
+use Rattle.splitter.proofs.Checking.{refused-as}
 
 module _ (s : List ℕ) (e : ℕ) {r : NamePart} where
   -- Name is refused
@@ -35,16 +30,18 @@ module _ (s : List ℕ) (e : ℕ) {r : NamePart} where
   unfolding nameRefusal handedBack
   names-none why q n =
       record {
-        verdict = n .0 ∙ sym (ap refusalOf q);
-        begins = rw q (n .1 .0);
-        ends = rw q (n .1 .1);
-        inside = omega (arith, n .1 .1);
+        verdict = n .verdict ∙ sym (ap refusalOf q);
+        begins = rw q (n .begins);
+        ends = rw q (n .ends);
+        inside = omega (arith, n .ends);
       }
 
   -- the text is refused
   pub refused-text : {v : Verdict} {why : D.Refusal} → verdictRefusal v ≡ refusalOf (asFarAs7 s) → v ≡ Refused why → NoPart why r → Named s e r
-  unfolding verdictRefusal name
-  refused-text {why = why} h q n = names-none why (rw (was-refused (asFarAs7 s) (tabled why) (sym h ∙ ap verdictRefusal q))) n
+  unfolding name
+  refused-text {why = why} h q n =
+      let z : asFarAs7 s ≡ refused (tabled why) = refused-as h q in
+      names-none why (rw z) n
 
 -- the text is past 7
 module _ {s : List ℕ} {p : Tables} (h : Held (asFarAs7 s) s p) (e : ℕ) where
@@ -53,8 +50,7 @@ module _ {s : List ℕ} {p : Tables} (h : Held (asFarAs7 s) s p) (e : ℕ) where
 
   -- the rows count the value's events
   counted : p .events ≡ length (value .names)
-  unfolding systemOf
-  counted = ap (λ (t : TransitionSystem). t .events) (h .told .tells-system)
+  counted = told-events (h .told)
 
   -- the event is not declared
   pub unknown : {r : NamePart} → p .events ≤ e → NoPart (UnknownEvent 0) r → Named s e r

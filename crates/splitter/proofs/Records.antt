@@ -1,21 +1,16 @@
 -- What Steps leaves, from the numbers that are listed and the records that are filled from them.
-use Prim.Native.Nat.{ℕ, zero, suc}
-use mathlib.Core.Path.{_≡_, refl, ap, _∙_}
-use mathlib.Core.List.{List, [], _∷_, _++_, map}
+use Prim.Native.Nat.{ℕ}
+use mathlib.Core.Path.{_≡_, ap, _∙_}
+use mathlib.Core.List.{List, _++_, map}
 use lib.ListN.{length, drop, length-map}
 use Rattle.model.specs.declared.Transition.{Transition}
 use Rattle.model.specs.Cases.{recorded}
 use Rattle.model.specs.Services.{steps}
-use Rattle.model.proofs.ListLaws.{map-append}
+use Rattle.model.proofs.ListLaws.{map-append, map-drop}
 use Rattle.listing.specs.Records.{firstRecords, filled}
 use Rattle.splitter.specs.declared.Answer.{Answer}
 use Rattle.splitter.specs.Answers.{answered}
 use Rattle.splitter.specs.Stages.{writtenBy, Lists}
-
-map-drop : {A B : Type 0} (f : A → B) (k : ℕ) (xs : List A) → map f (drop k xs) ≡ drop k (map f xs)
-map-drop f zero xs = refl
-map-drop f (suc k) [] = refl
-map-drop f (suc k) (x ∷ xs) = map-drop f k xs
 
 pub answers : (s numbers : List ℕ) (ys zs : List Transition) (r : Answer) → Lists s (length ys) numbers r → zs ≡ filled numbers (writtenBy r) ys
     → (answered r ≡ steps s (map recorded ys) .answer) × (map recorded zs ≡ steps s (map recorded ys) .left)

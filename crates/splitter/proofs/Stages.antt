@@ -18,6 +18,7 @@ use Rattle.model.proofs.Laws.{orElse-none}
 use Rattle.reader.specs.declared.Verdict.{Verdict}
 use Rattle.reader.specs.declared.Verdict.the-variants.{Refused, Passed}
 use Rattle.reader.specs.declared.Tables.{Tables}
+use Rattle.reader.specs.declared.Reading.{Reading}
 use Rattle.reader.specs.Tables.{verdictRefusal, tablesOf}
 use Rattle.reader.specs.Told.{systemOf, MachinesTold, Told}
 use Rattle.reader.proofs.Bounds.{limits, bounded, names-inside}
@@ -28,10 +29,10 @@ use Rattle.sheet.specs.Written.{rowSheet}
 use Rattle.sheet.proofs.Told.{told-sheet, lent}
 use Rattle.splitter.specs.declared.Answer.the-variants as A
 use Rattle.splitter.specs.Answers.{answered}
-use Rattle.splitter.specs.Stages.{Held}
+use Rattle.splitter.specs.Stages.{Held, ReadAsFarAs7}
 use Rattle.splitter.proofs.Checking.{was-passed, unread-7, refusal-7, passed-7, Gives, unread, turned-down, too-short, accepted}
 
--- and the value is past 12
+-- the text is read, and its value is past 12
 pub record Judged (s : List ℕ) (p : Tables) (pre post : List ℕ) : Type 0 where
   pub held : Held (read s) s p
   pub passes : refusalTo12 (system (held .value)) (held .value .machines) ≡ none
@@ -52,27 +53,23 @@ held s r p h e q told =
 
 -- ---- what 4 to 7 answer
 
--- the verdict is that of the check as far as 7, and the rows hold a value that passes it
-abbrev pub AsFarAs7 : List ℕ → Verdict → Tables → Type 0
-AsFarAs7 s r p = (verdictRefusal r ≡ refusalOf (asFarAs7 s)) × (verdictRefusal r ≡ none → Held (asFarAs7 s) s p)
-
 -- refused by 1 to 3
-pub refused-to-3 : {s : List ℕ} {r : Verdict} {p : Tables} {why : D.Refusal} → verdictRefusal r ≡ refusalOf (read s) → r ≡ Refused why → AsFarAs7 s r p
+pub refused-to-3 : {s : List ℕ} {r : Reading} {why : D.Refusal} → verdictRefusal (r .verdict) ≡ refusalOf (read s) → r .verdict ≡ Refused why → ReadAsFarAs7 s r
 unfolding verdictRefusal
 refused-to-3 {s} {why = why} h e =
     let q = ap verdictRefusal e in
-    (q ∙ sym (unread-7 s (tabled why) (sym h ∙ q)), λ n. refuses why (sym q ∙ n))
+    record { verdict = q ∙ sym (unread-7 s (tabled why) (sym h ∙ q)); held = λ n. refuses why (sym q ∙ n) }
 
 module _ {s : List ℕ} {p : Tables} (h : Held (read s) s p) where
   -- what is read and passes 4 to 7 is held as far as 7
-  pub held-7 : systemRefusal (system (h .value)) ≡ none → Held (asFarAs7 s) s p
+  held-7 : systemRefusal (system (h .value)) ≡ none → Held (asFarAs7 s) s p
   held-7 n = record { value = h .value; passes = passed-7 s (h .value) (h .passes) n; told = h .told; bounds = h .bounds; names = h .names }
 
   -- the verdict on the rows' transition system is that on the text
-  pub judged-7 : (r : Verdict) → verdictRefusal r ≡ systemRefusal (systemOf p) → AsFarAs7 s r p
+  pub judged-7 : (r : Verdict) → verdictRefusal r ≡ systemRefusal (systemOf p) → ReadAsFarAs7 s (record { verdict = r; tables = p })
   judged-7 r e =
       let q : verdictRefusal r ≡ systemRefusal (system (h .value)) = e ∙ ap systemRefusal (h .told .tells-system) in
-      (q ∙ sym (refusal-7 s (h .value) (h .passes)), λ n. held-7 (sym q ∙ n))
+      record { verdict = q ∙ sym (refusal-7 s (h .value) (h .passes)); held = λ n. held-7 (sym q ∙ n) }
 
 -- ---- what 4 to 12 answer
 

@@ -2,13 +2,16 @@
 use Prim.Native.Nat.{ℕ, _+_, _*_, _≤_}
 use mathlib.Core.Path.{_≡_}
 use mathlib.Core.List.{List, _++_, map}
+use mathlib.Core.Option.{none, some}
 use lib.ListN.{length, drop}
-use Rattle.model.specs.Refusal.{Checked, passed}
-use Rattle.model.specs.Cases.{recorded}
+use Rattle.model.specs.declared.Refusal as D
+use Rattle.model.specs.Refusal.{Checked, passed, refusalOf}
+use Rattle.model.specs.Cases.{tabled, recorded}
 use Rattle.model.specs.TransitionSystem.{Transition}
 use Rattle.model.specs.Text.{Input}
-use Rattle.model.specs.Services.{steps, name, handedBack, nameRefusal}
+use Rattle.model.specs.Services.{asFarAs7, steps, name, handedBack, nameRefusal}
 use Rattle.reader.specs.declared.Tables.{Tables}
+use Rattle.reader.specs.declared.Reading.{Reading}
 use Rattle.reader.specs.Tables.{verdictRefusal}
 use Rattle.reader.specs.Told.{Told}
 use Rattle.reader.specs.Bounded.{Bounded, NamesInside}
@@ -26,6 +29,11 @@ pub record Held (checked : Checked Input) (s : List ℕ) (p : Tables) : Type 0 w
   pub bounds : Bounded p
   pub names : NamesInside s (p .«name_at») (p .«name_len») (p .events)
 
+-- the verdict is that of the check as far as 7; if the text passes, the rows hold its value
+pub record ReadAsFarAs7 (s : List ℕ) (r : Reading) : Type 0 where
+  pub verdict : verdictRefusal (r .verdict) ≡ refusalOf (asFarAs7 s)
+  pub held : verdictRefusal (r .verdict) ≡ none → Held (asFarAs7 s) s (r .tables)
+
 -- how many entries an answer says were written
 unfoldable pub writtenBy : Answer → ℕ
 writtenBy (Refused why) = 0
@@ -38,6 +46,12 @@ pub record Lists (s : List ℕ) (room : ℕ) (numbers : List ℕ) (r : Answer) :
       → map recorded (firstRecords numbers (writtenBy r)) ++ drop (writtenBy r) out ≡ steps s out .left
   pub fits : writtenBy r ≤ room
   pub inside : 3 * writtenBy r ≤ length numbers
+
+-- r has this refusal, and the empty part at the text's beginning
+pub record NoPart (why : D.Refusal) (r : NamePart) : Type 0 where
+  pub verdict : verdictRefusal (r .verdict) ≡ some (tabled why)
+  pub begins : r .from ≡ 0
+  pub ends : r .end ≡ 0
 
 -- r has the refusal of Name, and the part that it hands back
 pub record Named (s : List ℕ) (e : ℕ) (r : NamePart) : Type 0 where

@@ -1,14 +1,12 @@
 // The services. Each takes any bytes, and its contract is an equation with the model's definition of it.
 ghost use mathlib.Core.Path.{_≡_};
 ghost use mathlib.Core.List.{map};
-ghost use mathlib.Core.Option.{none, some};
 ghost use lib.ListN.{length};
-ghost use Rattle.model.specs.Refusal.{refusalOf};
 ghost use Rattle.model.specs.Cases.{tabled, recorded};
 ghost use Rattle.model.specs.Services as Services;
 ghost use Rattle.reader.specs.Tables.{verdictRefusal};
 ghost use Rattle.splitter.specs.Answers.{answered, numbered, PartOf};
-ghost use Rattle.splitter.specs.Stages.{Held, writtenBy, Lists, Named};
+ghost use Rattle.splitter.specs.Stages.{ReadAsFarAs7, writtenBy, Lists, NoPart, Named};
 use checker::check_as_far_as_12;
 use listing::NUMBERS;
 use listing::fill;
@@ -25,10 +23,10 @@ use sheet::write_sheet;
 use transition_system::EXCITATION_WORDS;
 use transition_system::check_transition_system;
 
-// What a call answers that writes into what was lent.
+// The answer of a call that writes into a lent list.
 pub enum Answer {
     Refused(Refusal),
-    // so many entries of what was lent are written: the sheet's bytes, or the transitions
+    // so many of its entries are written: the sheet's bytes, or the transitions
     Accepted { size: usize },
 }
 
@@ -98,8 +96,7 @@ pub fn check(text: &[u8], out: &mut [u8]) -> Answer
 
 // The text's rows, and its refusal as far as 7.
 fn read_as_far_as_7(text: &[u8]) -> Reading
-    ensures { λ r. ⌜ verdictRefusal (r .verdict) ≡ refusalOf (Services.asFarAs7 (now (text .entry))) ⌝ }
-    ensures { λ r. ⌜ (verdictRefusal (r .verdict) ≡ none → Held (Services.asFarAs7 (now (text .entry))) (now (text .entry)) (r .tables)) ⌝ }
+    ensures { λ r. ⌜ ReadAsFarAs7 (now (text .entry)) r ⌝ }
 {
     let reading = read(text);
     let form = reading.verdict;
@@ -113,9 +110,9 @@ fn read_as_far_as_7(text: &[u8]) -> Reading
 }
 
 // What Steps answers where `room` records are lent, and the transitions' numbers if they fit.
-fn list(text: &[u8], room: usize, numbers: &mut [u8]) -> Answer
-    requires { ⌜ length (now numbers) ≡ 3072 ⌝ }
-    ensures { λ r. ⌜ Lists (now (text .entry)) room (now (numbers .exit)) r ⌝ }
+fn list(text: &[u8], room: usize, row: &mut [u8]) -> Answer
+    requires { ⌜ length (now row) ≡ 3072 ⌝ }
+    ensures { λ r. ⌜ Lists (now (text .entry)) room (now (row .exit)) r ⌝ }
 {
     let reading = read_as_far_as_7(text);
     let verdict = reading.verdict;
@@ -127,13 +124,7 @@ fn list(text: &[u8], room: usize, numbers: &mut [u8]) -> Answer
     if room < needed {
         return Answer::Refused(Refusal::BufferTooShort { needed });
     }
-    list_transitions(
-        &tables.source,
-        &tables.event,
-        &tables.target,
-        needed,
-        numbers,
-    );
+    list_transitions(&tables.source, &tables.event, &tables.target, needed, row);
     Answer::Accepted { size: needed }
 }
 
@@ -152,10 +143,10 @@ pub fn steps(text: &[u8], out: &mut [Transition]) -> Answer
     ensures { λ r. ⌜ (answered r ≡ Services.steps (now (text .entry)) (map recorded (now (out .entry))) .answer)
         × (map recorded (now (out .exit)) ≡ Services.steps (now (text .entry)) (map recorded (now (out .entry))) .left) ⌝ }
 {
-    let mut numbers = [0u8; NUMBERS];
-    let answer = list(text, out.len(), &mut numbers);
+    let mut row = [0u8; NUMBERS];
+    let answer = list(text, out.len(), &mut row);
     let count = written(answer);
-    fill(out, &numbers, count);
+    fill(out, &row, count);
     answer
 }
 
@@ -167,8 +158,7 @@ struct NamePart {
 }
 
 fn no_part(why: Refusal) -> NamePart
-    ensures { λ r. ⌜ verdictRefusal (r .verdict) ≡ some (tabled why) ⌝ }
-    ensures { λ r. ⌜ (r .from ≡ 0) × (r .end ≡ 0) ⌝ }
+    ensures { λ r. ⌜ NoPart why r ⌝ }
 {
     NamePart {
         verdict: Verdict::Refused(why),

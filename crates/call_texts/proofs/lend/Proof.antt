@@ -1,4 +1,5 @@
--- `call_texts::lend` meets its contract: a walk of its MIR, by hand. The first records of a local array are lent for a lifetime that the walk makes, `steps` is called, the lifetime ends, and the array is taken back and returned.
+-- `call_texts::lend` meets its contract: a walk of its MIR, by hand. The first records of a local array are lent for a lifetime that the walk makes, `steps` is
+-- called, the lifetime ends, and the array is taken back and returned.
 -- Assumes nothing.
 use mathlib.Core.Path.{_≡_, refl, sym, _∙_}
 use Prim.Native.Nat.{ℕ, _<_, _≤_, _+_, _^_}
@@ -15,7 +16,7 @@ use prog.Memory.{Memory}
 use prog.Routine.{Routine}
 use prog.Wp.{Heap, Env, Wp, atReturn, WpFn, Tables}
 use ghost.Atoms.{Atoms}
-use contract.Monad.{Fun, fact}
+use contract.Monad.{Fun}
 use contract.Running.{givenOf, tables, tablesOf}
 use types.Kit.{Given, Item, ‵, raw, _⊛_, ⋆, some, later, atRet, _$_, _∵_, !, qed, by, move, keep, drop, use1, use2, use3, split, join, pick, rewrite, fsplit, fjoin, feqL, suffices, frame, await, done}
 use types.Tokens.{lft-new, lft-end}
@@ -44,18 +45,15 @@ use denote.Triple.Entry.{onEntry}
 use denote.Triple.Spec.{Meets, tripleOf}
 use denote.Triple.Statement.{Contract, Triple}
 use denote.Triple.Call.{calls-at}
-use denote.Triple.Clauses.{ensured, lasts}
+use denote.Triple.Clauses.{ensured, lasts, atExit}
 use denote.Triple.Table.{entered, cited}
 use denote.Triple.Walked.{needs, Stays, stay-none, stay-none-slice, walkOf, goes-none, goes-none-slice, Walks, ends-at, walked, walk-meets}
 use denote.Exit.{yes}
 use Rattle.model.specs.declared.Transition.{Transition}
-use Rattle.model.specs.Cases.{recorded}
-use Rattle.model.specs.Services as Services
 use Rattle.model.proofs.Transition as S
 use Rattle.model.proofs.Transition.Laws as S′
-use Rattle.listing.proofs.Entry.{atStart, starts}
-use Rattle.listing.proofs.Arrays.{Row, row-in, row-cells, cells-row, row-out}
-use Rattle.splitter.specs.Answers.{answered}
+use Rattle.walks.proofs.Entry.{atStart, starts}
+use Rattle.walks.proofs.Arrays.{Row, row-in, row-cells, cells-row, row-out}
 use Rattle.splitter.specs.declared.Answer.{Answer}
 use Rattle.splitter.proofs.Answer as N
 use Rattle.splitter.proofs.Answer.Laws as N′
@@ -238,7 +236,7 @@ module _ {M : Type 1} (𝓤 : URA M) (H : Heap 𝓤) (A : Atoms 𝓤) (W : Given
           nothing ! $ move ! (5 ∷ 0 ∷ []) $ join ! $ move ! (6 ∷ 0 ∷ []) $ join ! $ move ! (0 ∷ 1 ∷ 3 ∷ []) $ use3 W (raw (TheSteps 𝓤 H A mem′ run .pre (to l₄ α γ))) (asked l₄ α γ) $
           calls-at ! (fmOf 𝓤 H (W .laws) 𝓣) (TheSteps 𝓤 H A mem′ run) known (to l₄ α γ) (and-then ! (load ! (from ! (stop !)) (look ! 5 refl)) (and-then ! (load ! (from ! (stop !)) (look ! 10 refl)) (no-more !))) (λ w.
           use1 W (later (some (λ (r : Answer). (Toks l₄ α γ ⊛ ‵ (N.the-row .own r (w ∷ []))) ⊛ raw (ensured 𝓤 H A steps.ended (steps.clauses 𝓤 H A mem′ run) (κ, (α ∷ [], tt)) (text, (y l₄ α γ, tt)) tt r)))) (id⊢ 𝓤 _) $ await ! tt $ pick ! (λ r. split ! $
-          move ! (1 ∷ []) $ use1 W (some (λ (ws : Unit {0} × (List Transition × Unit {0})). ‵ (lasts steps.ended (κ, (α ∷ [], tt)) (text, (y l₄ α γ, tt)) ws) ⊛ raw (fact 𝓤 ((answered r ≡ Services.steps (now text) (map recorded front) .answer) × (map recorded (ws .1 .0) ≡ Services.steps (now text) (map recorded front) .left))))) (id⊢ 𝓤 _) $ pick ! (λ ws. split ! $
+          move ! (1 ∷ []) $ use1 W (some (λ (ws : Unit {0} × (List Transition × Unit {0})). ‵ (lasts steps.ended (κ, (α ∷ [], tt)) (text, (y l₄ α γ, tt)) ws) ⊛ raw (steps.clauses 𝓤 H A mem′ run (κ, (α ∷ [], tt)) (text, (y l₄ α γ, tt)) .ensures tt r (atExit steps.ended (κ, (α ∷ [], tt)) (text, (y l₄ α γ, tt)) ws)))) (id⊢ 𝓤 _) $ pick ! (λ ws. split ! $
           move ! (1 ∷ []) $ drop ! $ fsplit ! $ move ! (1 ∷ []) $ fsplit ! $ fsplit ! $ move ! (1 ∷ []) $ feqL ! (λ same.
           move ! (3 ∷ []) $ split ! $ split ! $ move ! (1 ∷ []) $ split ! $ lft-end ! tt $ move ! (0 ∷ 8 ∷ 4 ∷ []) $ use3 W (later (‵ (Arr (mem S.the-row) (length front) .lies (ws .1 .0) l₄ 0))) (slice-back 𝓤 H A W S.the-row (α ∷ []) γ (ws .1 .0) (length front) l₄ 0) $ await ! tt $
           fsplit ! $ rewrite ! 8 (λ (m : ℕ). ‵ (cells (mem S.the-row) back l₄ (at 0 (mem S.the-row .size) m))) (sym same) refl $

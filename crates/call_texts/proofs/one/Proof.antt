@@ -1,7 +1,6 @@
 -- `call_texts::one` stays within its buffers.
 use mathlib.Core.Path.{sym}
 use lib.Seq.{length-take-le}
-use borrow.Author.Tests.{ltb-false}
 use borrow.Author.Needs.{needs}
 use Rattle.call_texts.proofs.one.Statement.{statement}
 use Rattle.call_texts.proofs.one.Tie as tie
@@ -15,6 +14,15 @@ load-requires c κs = search needs
 returns : tie.Need-returns
 returns c = search needs
 
+array-read-size : tie.Need-array-read-size
+array-read-size c = search needs
+
+array-read-size-2 : tie.Need-array-read-size-2
+array-read-size-2 c = search needs
+
+size-requires : tie.Need-size-requires
+size-requires c κs = search needs
+
 sub-number : tie.Need-sub-number
 sub-number c = search needs
 
@@ -27,29 +35,14 @@ part-number-end c = search needs
 number-requires : tie.Need-number-requires
 number-requires c κs = search needs
 
-sub-number-2 : tie.Need-sub-number-2
-sub-number-2 c = search needs
+array-read-size-3 : tie.Need-array-read-size-3
+array-read-size-3 c = search needs
 
-part-number-start-2 : tie.Need-part-number-start-2
-part-number-start-2 c = search needs
+array-read-size-4 : tie.Need-array-read-size-4
+array-read-size-4 c = search needs
 
-part-number-end-2 : tie.Need-part-number-end-2
-part-number-end-2 c = search needs
-
-number-requires-2 : tie.Need-number-requires-2
-number-requires-2 c κs = search needs
-
-sub-number-3 : tie.Need-sub-number-3
-sub-number-3 c = search needs
-
-part-number-start-3 : tie.Need-part-number-start-3
-part-number-start-3 c = search needs
-
-part-number-end-3 : tie.Need-part-number-end-3
-part-number-end-3 c = search needs
-
-number-requires-3 : tie.Need-number-requires-3
-number-requires-3 c κs = search needs
+size-requires-2 : tie.Need-size-requires-2
+size-requires-2 c κs = search needs
 
 slice-aggregate-load-2 : tie.Need-slice-aggregate-load-2
 slice-aggregate-load-2 c = search needs
@@ -61,11 +54,10 @@ returns-2 : tie.Need-returns-2
 returns-2 c = search needs
 
 array-share-prefix-text : tie.Need-array-share-prefix-text
-array-share-prefix-text c =
-    search (needs, ltb-false 65535 (c .before .before .before .before .before .before .number3 .result) (c .before .before .before .before .if3 .left))
+array-share-prefix-text c = search needs
 
 slice-aggregate-answer : tie.Need-slice-aggregate-answer
-slice-aggregate-answer c = sym (length-take-le _ _ (array-share-prefix-text (c .before)))
+slice-aggregate-answer c = sym (length-take-le _ _ (search needs))
 
 answer-requires : tie.Need-answer-requires
 answer-requires c κs = search needs
@@ -80,18 +72,16 @@ one-spec =
     slice-aggregate-load
     load-requires
     returns
+    array-read-size
+    array-read-size-2
+    size-requires
     sub-number
     part-number-start
     part-number-end
     number-requires
-    sub-number-2
-    part-number-start-2
-    part-number-end-2
-    number-requires-2
-    sub-number-3
-    part-number-start-3
-    part-number-end-3
-    number-requires-3
+    array-read-size-3
+    array-read-size-4
+    size-requires-2
     slice-aggregate-load-2
     load-requires-2
     returns-2

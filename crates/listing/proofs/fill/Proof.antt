@@ -1,4 +1,5 @@
--- `listing::fill` meets its contract: a walk of its MIR, by hand. The borrow of the records is opened once, before the loop, and closed once, after it; `record_at` is called in each turn, and all that is known of it is its contract.
+-- `listing::fill` meets its contract: a walk of its MIR, by hand. The borrow of the records is opened once, before the loop, and closed once, after it. All that
+-- is known of `record_at`, which is called in each turn, is that it meets its contract.
 -- Assumes nothing.
 use mathlib.Core.Path.{_≡_, refl, sym, ap, subst, _∙_}
 use Prim.Native.Nat.{ℕ, _<_, _≤_, _+_, _*_, _-_, _^_}
@@ -113,7 +114,7 @@ module _ {M : Type 1} (𝓤 : URA M) (H : Heap 𝓤) (A : Atoms 𝓤) (W : Given
       qed W (‵ (fobs γ (codedHoleys S.the-row .code (heres S.the-row (zs k)))) ∷ ‵ (fbor κ (Held S.the-row (length (zs k)) b o γ)) ∷ ‵ (flft κ q) ∷ Tok ∷ ‵ Own ∷ []) ∵
       suffices ! _ (ends-at 𝓤 H A fill.ended stayed (fill.clauses 𝓤 H A mem run) W (((κ, (κ₁, tt)), (q, (q₁, tt)), tt, a, vals), tt) vunit tt (zs k, (tt, (tt, tt))) (same-length k within, (tt, (tt, tt)))) $ says ! refl $
       move ! (2 ∷ 3 ∷ []) $ join ! $ frame ! $
-      -- [obs; the borrow; what nums owns]
+      -- [obs; the borrow; what numbers owns]
       fjoin ! $ pureI ! (at-slice S.the-row (x (zs k)) (sv ∷ [])) (tt, (tt, tt)) (ap (λ (m : ℕ). sliceVal (b, o) m ∷ []) (sym (same-length k within)), subst (Room S.the-row) (sym (same-length k within)) room) $ fjoin ! $
       nothing ! $ owned ! usize (Is usize) (uint-makes 𝓤 H A W w64) k _ (refl, k-fits) $ fjoin ! $ move ! (2 ∷ 0 ∷ []) $ fjoin ! $ move ! (1 ∷ 0 ∷ []) $ fjoin ! $
       feqI ! (List Val) (vunit ∷ []) (vunit ∷ []) refl $ move ! (1 ∷ 0 ∷ []) $ done !
@@ -185,13 +186,13 @@ module _ {M : Type 1} (𝓤 : URA M) (H : Heap 𝓤) (A : Atoms 𝓤) (W : Given
           use1 W (later (some (λ (r : Transition). ((‵ (flft κ₁ q₁) ⊛ ‵ ftrue) ⊛ ‵ (S.the-row .own r (u ∷ []))) ⊛ raw (ensured 𝓤 H A record-at.ended (record-at.clauses 𝓤 H A mem run) (κ₁, tt) (ns, (i, tt)) tt r)))) (id⊢ 𝓤 _) $ await ! tt $ pick ! (λ r.
           split ! $ move ! (1 ∷ []) $ use1 W (raw (fact 𝓤 (r ≡ recordAt (now ns) i))) (said i r) $ heard ! (r ≡ recordAt (now ns) i) (λ e. split ! $ move ! (1 ∷ []) $
           peeks ! S.the-row (Is S.the-row) (shows 𝓤 H A S.the-row) r (u ∷ []) (λ is.
-          -- [what the result owns; the token; what nums owns; the records; _4; _5; _6; _7; _8; _3; _2; _1; room for _0; the open borrow; obs; auth; …]
+          -- [what the result owns; the token; what numbers owns; the records; _4; _5; _6; _7; _8; _3; _2; _1; room for _0; the open borrow; obs; auth; …]
           land ! (from ! (stop !)) (init ! 6 refl (LL.lawful S.the-type S′.the-laws 𝓤 H A W .typed r _ is .0)) $
           assigns ! (bin ! (load ! (from ! (stop !)) (look ! 4 refl)) (lit ! tt) (record { fits = bytes })) (from ! (stop !)) (init ! 7 refl (tt, record { fits = bytes })) $
           assigns ! (bin ! (load ! (from ! (fld ! refl (stop !))) (look-in ! 11 (sub ! 0 refl (whole !)))) (load ! (from ! (stop !)) (look ! 7 refl)) tt) (from ! (stop !)) (init ! 8 refl (tt, tt)) $
           rewrite ! 8 (λ (p : ℕ). ‵ (fat fullShare tyPtr l₈ 0 (vptr b p))) (sym (place-is 3 o i)) refl $
           move ! (3 ∷ []) $ elem-out ! S.the-row (Is S.the-row) (shows 𝓤 H A S.the-row) valS (LL.tells S.the-type S′.the-laws) fullShare (zs i) i r b o inside (λ _.
-          -- [the record; what it owns; the others; what the result owns; the token; what nums owns; _4; _5; _6; _7; _8; …]
+          -- [the record; what it owns; the others; what the result owns; the token; what numbers owns; _4; _5; _6; _7; _8; …]
           assigns ! (of-opd ! (load ! (from ! (stop !)) (look ! 8 refl))) (from ! (hop ! (look ! 10 refl) (stop !))) (store-raw ! 0 refl (LL.lawful S.the-type S′.the-laws 𝓤 H A W .typed r _ is .0)) $
           move ! (0 ∷ 3 ∷ 2 ∷ []) $ elem-put ! S.the-row fullShare (zs i) i r (u ∷ []) b o inside $
           rewrite ! 0 (λ (l : List Transition). ‵ (row S.the-row fullShare l b o)) (ap (set (zs i) i) e ∙ filled-more (now ns) i ys (omega arith)) refl $
@@ -217,7 +218,7 @@ module _ {M : Type 1} (𝓤 : URA M) (H : Heap 𝓤) (A : Atoms 𝓤) (W : Given
           rewrite ! 2 (λ (t : Bool). ‵ (fat fullShare tyBool l₅ 0 (vbool t))) test refl $
           leaves-loop ! (load ! (from ! (stop !)) (look ! 2 refl)) $ exec ! C Λ En code.Mir.t-3 (atRet En Post) $
           move ! (0 ∷ 12 ∷ 13 ∷ 14 ∷ []) $ closes-slice ! tt S.the-row ys (zs k) (same-length k within) b o $
-          -- [obs; the borrow; the token; _4; _5; _6; _7; _8; nums' token; what nums owns; _3; _2; _1; room for _0; and that each local dies]
+          -- [obs; the borrow; the token; _4; _5; _6; _7; _8; numbers' token; what numbers owns; _3; _2; _1; room for _0; and that each local dies]
           assigns ! (of-opd ! (unit-lit !)) (from ! (stop !)) (init ! 13 refl (tt, tt)) $
           returns ! (look ! 13 refl) $ forget ! 3 refl $ forget ! 4 refl $ forget ! 10 refl $ forget ! 11 refl $ forget ! 12 refl $ forget ! 13 refl $
           move ! (13 ∷ 14 ∷ []) $ free1 ! $ move ! (12 ∷ 13 ∷ []) $ free1 ! $ move ! (11 ∷ 12 ∷ []) $ free1 ! $ move ! (10 ∷ 11 ∷ []) $ free1 ! $
@@ -251,7 +252,7 @@ module _ {M : Type 1} (𝓤 : URA M) (H : Heap 𝓤) (A : Atoms 𝓤) (W : Given
         assigns ! (of-opd ! (lit ! tt)) (from ! (stop !)) (init ! 8 refl (tt, record { fits = lit< tt })) $
         move ! (19 ∷ []) $ fsplit ! $ fsplit ! $ fsplit ! $ drop ! $ move ! (1 ∷ []) $ fsplit ! $ move ! (22 ∷ []) $ split ! $ move ! (2 ∷ 3 ∷ 0 ∷ []) $
         opens-slice ! tt S.the-row ys b o $ move ! (6 ∷ []) $ fsplit ! $
-        -- [what nums owns; what k owns; the records; the open borrow; obs; auth; nums' token; room; _8; …; _7; …; _6; …; _5; …; _4; …; _3; …; _2; …; _1; …; room for _0; …]
+        -- [what numbers owns; what k owns; the records; the open borrow; obs; auth; numbers' token; room; _8; …; _7; …; _6; …; _5; …; _4; …; _3; …; _2; …; _1; …; room for _0; …]
         keep ! (2 ∷ 16 ∷ 14 ∷ 12 ∷ 10 ∷ 8 ∷ 6 ∷ 0 ∷ 18 ∷ 20 ∷ 22 ∷ 24 ∷ 3 ∷ 4 ∷ 5 ∷ 25 ∷ 23 ∷ 21 ∷ 19 ∷ 17 ∷ 15 ∷ 13 ∷ 11 ∷ 9 ∷ []) $ by ! (loops l₀ l₁ l₂ l₃ l₄ l₅ l₆ l₇ l₈))))))))))
 
 module _ {M : Type 1} (𝓤 : URA M) (H : Heap 𝓤) (A : Atoms 𝓤) (W : Given 𝓤 H A) (mem : Memory → SProp 𝓤) (run : Routine → Fun 𝓤) (𝓣 : Tables 𝓤 H) (known : Triple 𝓤 (𝓣 .C #listing·record-at) (RecordAt 𝓤 H A mem run)) where

@@ -17,7 +17,7 @@ bytes c = now (c .before .before .before .before .args .text)
 
 -- it is past 7
 reading : (c : tie.After-enum-told) → Held (asFarAs7 (bytes c)) (bytes c) (c .before .before .read-as-far-as-7 .result .tables)
-reading c = c .before .before .read-as-far-as-7 .ensures .1 (lets-pass (c .enum-told .given .1))
+reading c = c .before .before .read-as-far-as-7 .ensures .held (lets-pass (c .enum-told .given .1))
 
 read-as-far-as-7-requires : tie.Need-read-as-far-as-7-requires
 read-as-far-as-7-requires c κs = search needs
@@ -30,7 +30,7 @@ no-part-requires c κs = search needs
 
 returns : tie.Need-returns
 returns c =
-    refused-text _ _ (c .before .before .before .before .read-as-far-as-7 .ensures .0) (c .before .before .verdict .given .1)
+    refused-text _ _ (c .before .before .before .before .read-as-far-as-7 .ensures .verdict) (c .before .before .verdict .given .1)
     (c .no-part .ensures)
 
 enum-told : tie.Need-enum-told

@@ -16,7 +16,7 @@ bytes c = now (c .before .before .before .before .before .args .text)
 
 -- the text is past 7, and the rows hold its value
 held : (c : tie.After-enum-told) → Held (asFarAs7 (bytes c)) (bytes c) (c .before .before .read-as-far-as-7 .result .tables)
-held c = c .before .before .read-as-far-as-7 .ensures .1 (lets-pass (c .enum-told .given .1))
+held c = c .before .before .read-as-far-as-7 .ensures .held (lets-pass (c .enum-told .given .1))
 
 -- from the call that lists back to the test for room, and to the place past 7
 abbrev room : tie.After-list-transitions-arg7 → tie.Else1
@@ -32,7 +32,7 @@ enum-known-verdict : tie.Need-enum-known-verdict
 enum-known-verdict c = search needs
 
 returns : tie.Need-returns
-returns c = lists-refusal (c .before .before .before .read-as-far-as-7 .ensures .0) (c .before .verdict .given .1)
+returns c = lists-refusal (c .before .before .before .read-as-far-as-7 .ensures .verdict) (c .before .verdict .given .1)
 
 enum-told : tie.Need-enum-told
 enum-told c = search needs

@@ -6,7 +6,7 @@ use Rattle.splitter.proofs.no_part.Tie as tie
 
 returns : tie.Need-returns
 unfolding verdictRefusal
-returns c = (refl, (refl, refl))
+returns c = record { verdict = refl; begins = refl; ends = refl }
 
 pub no-part-spec : {M : Type 1} → statement M
 no-part-spec = tie.close (tie.spec returns)

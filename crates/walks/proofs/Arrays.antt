@@ -1,4 +1,4 @@
--- A local that holds an array, as the row of its elements, and back: what lending an array asks of a walk by hand. It says nothing of the crate.
+-- A local that holds an array, as the row of its elements, and back: what lending an array asks of a walk.
 -- Assumes `Given`.
 use Prim.Native.Nat.{ℕ}
 use mathlib.Core.Path.{_≡_}

@@ -1,5 +1,5 @@
--- The entry of a function that is walked by hand, of any number of locals: each is allocated, and the arguments are stored in those after the result. It says
--- nothing of the crate. A walk's first lines at declared types take more steps than the kernel has; over types that are variables there is nothing to compute.
+-- The entry of a function: each local is allocated, however many there are, and the arguments are stored in those after the result. A walk's first lines at
+-- declared types take more steps than the kernel has; over types that are variables there is nothing to compute.
 -- Assumes nothing.
 use Prim.Native.Nat.{ℕ}
 use mathlib.Core.List.{List, [], _∷_}

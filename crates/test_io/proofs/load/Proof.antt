@@ -1,9 +1,9 @@
--- `read_texts::load` lends the part that its contract grants.
+-- `test_io::load` lends the part that its contract grants.
 use mathlib.Core.Path.{sym}
 use lib.Seq.{length-take-le}
 use borrow.Author.Needs.{needs}
-use Rattle.read_texts.proofs.load.Statement.{statement}
-use Rattle.read_texts.proofs.load.Tie as tie
+use Rattle.test_io.proofs.load.Statement.{statement}
+use Rattle.test_io.proofs.load.Tie as tie
 
 slice-relend-prefix-read-full : tie.Need-slice-relend-prefix-read-full
 slice-relend-prefix-read-full c = search needs

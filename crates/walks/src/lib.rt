@@ -1,0 +1,1 @@
+// No code: laws for functions that are proved by hand, whatever they do (proofs/).
