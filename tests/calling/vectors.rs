@@ -7,30 +7,14 @@
 //!
 //! A call is the room in two bytes, the event in eight, the text's length in two, and the text. The answers are what
 //! Steps says, every record of the room, what Name hands back, and why it is refused if it is.
-use reference::{Refusal, Rules, TEXT_BOUND};
-use std::io::{self, Read, Write};
+use shared::reference::{self, Refusal, TEXT_BOUND};
+use shared::{defects, given, limits, reading, systems, texts, written, RULES};
+use std::io::{self, Write};
 
-#[path = "../splitting/defects.rs"]
-mod defects;
-#[path = "../splitting/limits.rs"]
-mod limits;
-#[path = "../reading/texts.rs"]
-mod reading;
-#[path = "../reference/reference.rs"]
-#[allow(dead_code)]
-mod reference;
-#[path = "../splitting/systems.rs"]
-mod systems;
-#[path = "../splitting/texts.rs"]
-#[allow(dead_code)]
-mod texts;
-#[path = "../splitting/written.rs"]
-mod written;
+#[path = "../shared.rs"]
+mod shared;
 
 mod calls;
-
-/// Document 01 alone: none of the later requests is in force.
-const RULES: Rules = Rules(0);
 
 /// A record that nothing was written to.
 const BLANK: &str = "(step 255 254 253)\n";
@@ -102,23 +86,11 @@ fn counts(calls: &[Call]) -> String {
     line(("", std::array::from_fn(|class| class))) + &rows.map(line).concat()
 }
 
-fn given() -> io::Result<Vec<Call>> {
-    let (mut input, mut calls) = (Vec::new(), Vec::new());
-    io::stdin().read_to_end(&mut input)?;
-    let mut rest = &input[..];
-    while !rest.is_empty() {
-        let (call, others) = Call::first(rest);
-        calls.push(call);
-        rest = others;
-    }
-    Ok(calls)
-}
-
 fn main() -> io::Result<()> {
     let written = match std::env::args().nth(1).as_deref() {
         Some("calls") => calls::all().iter().flat_map(Call::framed).collect(),
-        Some("answers") => given()?.iter().map(|c| steps_answer(c) + &name_answer(c)).collect::<String>().into_bytes(),
-        Some("counts") => counts(&given()?).into_bytes(),
+        Some("answers") => given(Call::first)?.iter().map(|c| steps_answer(c) + &name_answer(c)).collect::<String>().into_bytes(),
+        Some("counts") => counts(&given(Call::first)?).into_bytes(),
         _ => panic!("calls, or answers < calls, or counts < calls"),
     };
     io::stdout().write_all(&written)

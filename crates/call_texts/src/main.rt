@@ -10,6 +10,7 @@ use splitter::Answer;
 use test_io::load;
 use test_io::put;
 use test_io::put_number;
+use test_io::put_refused;
 use test_io::size;
 
 // What a caller of Steps has: the answer, and its records.
@@ -29,10 +30,7 @@ fn lend(text: &[u8], blank: Transition, room: usize) -> Listed
 
 fn put_refusal(why: Refusal) {
     let n = splitter::numbers(why);
-    put(b"(refused");
-    put_number(n.number);
-    put_number(n.detail);
-    put_number(n.second);
+    put_refused(n.number, n.detail, n.second);
     put(b")\n");
 }
 

@@ -1,27 +1,34 @@
 // Refusals 4 to 12 of a text's rows, in the fixed order.
 ghost use mathlib.Core.Path.{_≡_};
+ghost use mathlib.Core.List.{[]};
 ghost use mathlib.Core.Option.{none};
 ghost use Rattle.model.specs.Machine.{Decomposition};
 ghost use Rattle.reader.specs.Tables.{verdictRefusal};
 ghost use Rattle.reader.specs.Told.{systemOf, MachinesTold};
 ghost use Rattle.reader.specs.Bounded.{Bounded};
-ghost use Rattle.regions.specs.Moves.{MoveRows, MovesTold};
+ghost use Rattle.transition_system.specs.Sets.{Excitations};
+ghost use Rattle.regions.specs.Moves.{MoveRows};
+ghost use Rattle.closure.specs.Covers.{PlaceSets, CoverTold};
 ghost use Rattle.checker.specs.Order.{refusalTo12};
 use closure::check_cover;
 use reader::Tables;
 use reader::Verdict;
 use regions::check_regions;
-use transition_system::EXCITATION_WORDS;
 use transition_system::check_transition_system;
 
-// As far as 12. Passed, the rows have the move of each event on each machine.
-pub fn check_as_far_as_12(p: Tables, pre: &mut [u8], post: &mut [u8]) -> Verdict
-    requires { ⌜ Bounded p × MoveRows (now pre) (now post) ⌝ }
+// As far as 12. Passed, the rows have the moves, the places and the excitation sets that thinning asks for again.
+pub fn check_as_far_as_12(
+    p: Tables,
+    pre: &mut [u8],
+    post: &mut [u8],
+    excited: &mut [u64],
+    sets: &mut [u64],
+) -> Verdict
+    requires { ⌜ Bounded p × MoveRows (now pre) (now post) × Excitations [] (now excited) × PlaceSets (p .place) (p .states) 0 (now sets) ⌝ }
     ensures { λ r. ⌜ ((ms : Decomposition) → MachinesTold (systemOf p) p ms → verdictRefusal r ≡ refusalTo12 (systemOf p) ms) ⌝ }
-    ensures { λ r. ⌜ ((ms : Decomposition) → MachinesTold (systemOf p) p ms → verdictRefusal r ≡ none → MovesTold (systemOf p) ms (now (pre .exit)) (now (post .exit))) ⌝ }
+    ensures { λ r. ⌜ ((ms : Decomposition) → MachinesTold (systemOf p) p ms → verdictRefusal r ≡ none → CoverTold (systemOf p) ms (now (pre .exit)) (now (post .exit)) (now (sets .exit)) (now (excited .exit))) ⌝ }
 {
-    let mut excited = [0u64; EXCITATION_WORDS];
-    let system = check_transition_system(p, &mut excited);
+    let system = check_transition_system(p, excited);
     if let Verdict::Refused(why) = system {
         return Verdict::Refused(why);
     }
@@ -29,5 +36,5 @@ pub fn check_as_far_as_12(p: Tables, pre: &mut [u8], post: &mut [u8]) -> Verdict
     if let Verdict::Refused(fault) = machines {
         return Verdict::Refused(fault);
     }
-    check_cover(p, &excited, pre)
+    check_cover(p, excited, pre, sets)
 }

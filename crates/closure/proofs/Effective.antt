@@ -6,12 +6,17 @@ use mathlib.Core.Path.{_≡_, refl, sym, subst}
 use mathlib.Core.Logic.{_⊎_, inl, inr}
 use mathlib.Core.Bool.{true, false, not, or-true}
 use mathlib.Core.List.{List}
-use borrow.Author.Tests.{lt-ltb, le-ltb}
+use lib.Dec.{ltb}
 use Rattle.model.specs.Lists.{lowest}
 use Rattle.model.proofs.Laws.{below-suc}
 use Rattle.reader.specs.Told.{entry, below}
 use Rattle.reader.proofs.Searches.{Upto, searched}
 use Rattle.closure.specs.Covers.{onMachine, onSome}
+
+-- the event is on the machine if its entry is a place
+pub on-entry : (pre : List ℕ) (e k : ℕ) {q : ℕ} → q ≡ entry pre (k * 64 + e) → ltb q 64 ≡ onMachine pre e k
+unfolding onMachine
+on-entry pre e k v = rw v
 
 -- the event is on none of the first k machines
 pub record OnNone (pre : List ℕ) (e machines k : ℕ) : Type 0 where
@@ -23,11 +28,9 @@ module _ {pre : List ℕ} {e machines : ℕ} where
   unfolding onSome
   on-start = record { most = omega arith; none = refl }
 
-  pub on-more : {k q : ℕ} → OnNone pre e machines k → k < machines → q ≡ entry pre (k * 64 + e) → 64 ≤ q → OnNone pre e machines (k + 1)
-  unfolding onSome onMachine
-  on-more {k} {q} o l v h =
-      let b : 64 ≤ entry pre (k * 64 + e) = omega arith in
-      record { most = omega arith; none = rw (add-one k, o .none) (le-ltb (entry pre (k * 64 + e)) 64 b) }
+  pub on-more : {k : ℕ} → OnNone pre e machines k → k < machines → onMachine pre e k ≡ false → OnNone pre e machines (k + 1)
+  unfolding onSome
+  on-more {k} o l h = record { most = omega arith; none = rw (add-one k, o .none) h }
 
   pub on-end : {k : ℕ} → OnNone pre e machines k → machines ≤ k → false ≡ onSome pre e machines
   on-end {k} o l = let q : k ≡ machines = omega arith in sym (subst (λ (n : ℕ). onSome pre e n ≡ false) q (o .none))
@@ -41,9 +44,8 @@ on-some pre e k (suc n) l t = go (below-suc k n l) (λ b. on-some pre e k n b t)
     go (inl b) ih = rw (ih b)
     go (inr b) ih = rw (sym b, t, or-true (onSome pre e k))
 
-pub on-found : (pre : List ℕ) (e machines : ℕ) {k q : ℕ} → k < machines → q ≡ entry pre (k * 64 + e) → q < 64 → true ≡ onSome pre e machines
-unfolding onMachine
-on-found pre e machines {k} {q} l v h = let b : entry pre (k * 64 + e) < 64 = omega arith in sym (on-some pre e k machines l (lt-ltb (entry pre (k * 64 + e)) 64 b))
+pub on-found : (pre : List ℕ) (e machines : ℕ) {k : ℕ} → k < machines → onMachine pre e k ≡ true → true ≡ onSome pre e machines
+on-found pre e machines {k} l t = sym (on-some pre e k machines l t)
 
 -- the search stops at an event that is on no machine, or at the end
 pub ineffective-found : (pre : List ℕ) (machines : ℕ) {n e : ℕ} → Upto (λ j. onSome pre j machines ≡ true) n e → (e < n → onSome pre e machines ≡ false)

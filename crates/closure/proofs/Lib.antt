@@ -8,5 +8,7 @@ pub mod Effective
 pub mod Filling
 -- the states common to pre-places
 pub mod Meeting
+-- 11 and 12 of any selection of the machines
+pub mod Selection
 -- what the rows and the sets say is what the model says
 pub mod Cover

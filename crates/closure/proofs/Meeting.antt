@@ -14,8 +14,23 @@ use Rattle.state_set.specs.Rows.{setAt, memberAt}
 use Rattle.state_set.proofs.Sets.{fullSet, full-member}
 use Rattle.reader.specs.Told.{entry}
 use Rattle.reader.proofs.Searches.{lowest-same}
-use Rattle.closure.specs.Covers.{onMachine, commonTo, openIn}
+use Rattle.closure.specs.Covers.{onMachine, meets, commonTo, openIn}
 
+-- ---- one machine
+module _ (sets pre : List ℕ) (e k : ℕ) {q : ℕ} (v : q ≡ entry pre (k * 64 + e)) where
+  -- the event has a pre-place, whose set is b
+  pub meets-on :
+      (a b c : StateSet) → q < 64 → b ≡ setAt sets (k * 64 + q) → ((i : ℕ) → member c i ≡ (member a i && member b i))
+      → (i : ℕ) → member c i ≡ (member a i && meets sets pre e k i)
+  unfolding meets onMachine memberAt
+  meets-on a b c l s w i = let t : entry pre (k * 64 + e) < 64 = omega arith in w i ∙ rw (lt-ltb (entry pre (k * 64 + e)) 64 t, s, v)
+
+  -- or it is not on the machine
+  pub meets-off : (a : StateSet) → 64 ≤ q → (i : ℕ) → member a i ≡ (member a i && meets sets pre e k i)
+  unfolding meets onMachine
+  meets-off a l i = let t : 64 ≤ entry pre (k * 64 + e) = omega arith in rw (le-ltb (entry pre (k * 64 + e)) 64 t) (sym (and-true (member a i)))
+
+-- ---- machine by machine
 -- the set has the states common to the pre-places on the first k machines
 pub record Meeting (sets pre : List ℕ) (e machines : ℕ) (common : StateSet) (k : ℕ) : Type 0 where
   pub most : k ≤ machines
@@ -26,27 +41,11 @@ module _ {sets pre : List ℕ} {e machines : ℕ} where
   unfolding commonTo
   meet-start = record { most = omega arith; members = full-member }
 
-  pub meet-skip :
-      {a next : StateSet} {k q : ℕ} → Meeting sets pre e machines a k → k < machines → q ≡ entry pre (k * 64 + e) → 64 ≤ q → next ≡ a
-      → Meeting sets pre e machines next (k + 1)
-  unfolding commonTo onMachine
-  meet-skip {a} {next} {k} {q} m l v h u =
-      let b : 64 ≤ entry pre (k * 64 + e) = omega arith in
-      record {
-        most = omega arith;
-        members = λ i. rw (u, add-one k, le-ltb (entry pre (k * 64 + e)) 64 b) (m .members i ∙ sym (and-true (commonTo sets pre e k i)));
-      }
-
   pub meet-more :
-      {a b c next : StateSet} {k q : ℕ} → Meeting sets pre e machines a k → k < machines → q ≡ entry pre (k * 64 + e) → q < 64
-      → b ≡ setAt sets (k * 64 + q) → ((i : ℕ) → member c i ≡ (member a i && member b i)) → next ≡ c → Meeting sets pre e machines next (k + 1)
-  unfolding commonTo onMachine memberAt
-  meet-more {a} {b} {c} {next} {k} {q} m l v h s w u =
-      let t : entry pre (k * 64 + e) < 64 = omega arith in
-      record {
-        most = omega arith;
-        members = λ i. rw (u, add-one k, lt-ltb (entry pre (k * 64 + e)) 64 t) (w i ∙ rw (m .members i, s, v));
-      }
+      {a next : StateSet} {k : ℕ} → Meeting sets pre e machines a k → k < machines
+      → ((i : ℕ) → member next i ≡ (member a i && meets sets pre e k i)) → Meeting sets pre e machines next (k + 1)
+  unfolding commonTo
+  meet-more {a} {next} {k} m l w = record { most = omega arith; members = λ i. rw (add-one k) (w i ∙ rw (m .members i)) }
 
   pub meet-end : {a : StateSet} {k : ℕ} → Meeting sets pre e machines a k → machines ≤ k → (i : ℕ) → member a i ≡ commonTo sets pre e machines i
   meet-end {a} {k} m l i = let q : k ≡ machines = omega arith in subst (λ (n : ℕ). member a i ≡ commonTo sets pre e n i) q (m .members i)

@@ -8,7 +8,7 @@ use mathlib.Core.Option.{Option, none, some, orElse}
 use lib.Dec.{T}
 use Rattle.model.specs.Lists.{lowest}
 use Rattle.model.specs.Refusal.{refuse}
-use Rattle.model.proofs.Laws.{below-suc, order, Lowest, found, absent, lowest-view, none-lowest}
+use Rattle.model.proofs.Laws.{below-suc, order, Lowest, found, absent, lowest-view, none-lowest, orElse-none, map-none}
 use Rattle.state_set.specs.Member.{stateFound}
 use Rattle.state_set.specs.declared.Found.{Found}
 use Rattle.state_set.specs.declared.Found.the-variants.{Nothing, State}
@@ -34,6 +34,15 @@ module _ (f : ℕ → Option ℕ) where
   unfolding openRefusal orElse
   none-open zero h = refl
   none-open (suc n) h = rw (none-open n (λ k l. h k (omega arith)), h n (omega arith))
+
+  pub open-none : (n : ℕ) → openRefusal f n ≡ none → (k : ℕ) → k < n → f k ≡ none
+  unfolding openRefusal
+  open-none zero q k l = absurd (omega arith)
+  open-none (suc n) q k l = go (below-suc k n l) (open-none n (orElse-none _ _ q .0) k)
+    where
+      go : (k < n) ⊎ (k ≡ n) → (k < n → f k ≡ none) → f k ≡ none
+      go (inl b) ih = ih b
+      go (inr b) ih = rw b (map-none _ _ (orElse-none _ _ q .1))
 
   pub open-is : (k n s : ℕ) → k < n → ((j : ℕ) → j < k → f j ≡ none) → f k ≡ some s → openRefusal f n ≡ some (refuse 12 k s)
   unfolding openRefusal orElse

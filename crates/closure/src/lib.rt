@@ -1,19 +1,19 @@
 // Refusals 11 and 12: the machines together.
 ghost use mathlib.Core.Path.{_≡_};
-ghost use mathlib.Core.Bool.{not};
+ghost use mathlib.Core.Bool.{not, _&&_};
 ghost use mathlib.Core.List.{List};
 ghost use mathlib.Core.Option.{none};
 ghost use Prim.Native.Nat.{ℕ, suc, _<_, _≤_};
 ghost use lib.ListN.{length};
 ghost use Rattle.model.specs.Lists.{lowest};
-ghost use Rattle.model.specs.Machine.{Decomposition, machinesRefusal, coverRefusal};
+ghost use Rattle.model.specs.Machine.{Decomposition, machinesRefusal};
 ghost use Rattle.state_set.specs.Member.{member, stateFound};
 ghost use Rattle.reader.specs.Tables.{verdictRefusal};
 ghost use Rattle.reader.specs.Told.{systemOf, below, MachinesTold};
 ghost use Rattle.reader.specs.Bounded.{Bounded};
 ghost use Rattle.transition_system.specs.Sets.{Excitations};
 ghost use Rattle.regions.specs.Moves.{MovesTold};
-ghost use Rattle.closure.specs.Covers.{PlaceSets, onSome, commonTo, openIn, openRefusal};
+ghost use Rattle.closure.specs.Covers.{PlaceSets, onMachine, onSome, meets, commonTo, openIn, openRefusal, Judges};
 use model::MAX_EVENTS;
 use model::MAX_PLACES;
 use model::MAX_STATES;
@@ -31,7 +31,7 @@ use state_set::meet;
 use state_set::without;
 
 // Four words for each place of each machine.
-const PLACE_WORDS: usize = 4096;
+pub const PLACE_WORDS: usize = 4096;
 
 // The places of machine m as sets, in one pass over its states.
 fn add_places(place: &[u8], n: usize, m: usize, sets: &mut [u64])
@@ -61,14 +61,22 @@ fn add_machines(place: &[u8], n: usize, machines: usize, sets: &mut [u64])
     }
 }
 
-// Event e is on one of the machines.
-fn is_effective(pre: &[u8], machines: usize, e: usize) -> bool
+// Event e is on machine m.
+pub fn is_on(pre: &[u8], m: usize, e: usize) -> bool
+    requires { ⌜ (m < 16) × (e < 64) × (length (now pre) ≡ 1024) ⌝ }
+    ensures { λ r. ⌜ r ≡ onMachine (now (pre .entry)) e m ⌝ }
+{
+    wide(pre[m * MAX_EVENTS + e]) < MAX_PLACES
+}
+
+// Event e is on one of the first machines.
+pub fn is_effective(pre: &[u8], machines: usize, e: usize) -> bool
     requires { ⌜ (machines ≤ 16) × (e < 64) × (length (now pre) ≡ 1024) ⌝ }
     ensures { λ r. ⌜ r ≡ onSome (now (pre .entry)) e machines ⌝ }
 {
     let mut m = 0;
     while m < machines {
-        if wide(pre[m * MAX_EVENTS + e]) < MAX_PLACES {
+        if is_on(pre, m, e) {
             return true;
         }
         m += 1;
@@ -91,6 +99,18 @@ fn ineffective_event(pre: &[u8], machines: usize, events: usize) -> usize
     e
 }
 
+// Those of these states that are in the pre-place of event e on machine m; all of them where e is not on it.
+pub fn meet_pre(common: StateSet, sets: &[u64], pre: &[u8], m: usize, e: usize) -> StateSet
+    requires { ⌜ (m < 16) × (e < 64) × (length (now sets) ≡ 4096) × (length (now pre) ≡ 1024) ⌝ }
+    ensures { λ r. ⌜ ((i : ℕ) → member r i ≡ (member common i && meets (now (sets .entry)) (now (pre .entry)) e m i)) ⌝ }
+{
+    let q = wide(pre[m * MAX_EVENTS + e]);
+    if q < MAX_PLACES {
+        return meet(common, load(sets, m * MAX_PLACES + q));
+    }
+    common
+}
+
 // The states common to all pre-places of event e, over all machines.
 fn common_states(sets: &[u64], pre: &[u8], machines: usize, e: usize) -> StateSet
     requires { ⌜ (machines ≤ 16) × (e < 64) × (length (now sets) ≡ 4096) × (length (now pre) ≡ 1024) ⌝ }
@@ -99,10 +119,7 @@ fn common_states(sets: &[u64], pre: &[u8], machines: usize, e: usize) -> StateSe
     let mut common = StateSet::FULL;
     let mut m = 0;
     while m < machines {
-        let q = wide(pre[m * MAX_EVENTS + e]);
-        if q < MAX_PLACES {
-            common = meet(common, load(sets, m * MAX_PLACES + q));
-        }
+        common = meet_pre(common, sets, pre, m, e);
         m += 1;
     }
     common
@@ -142,10 +159,10 @@ fn check_closed(
     Verdict::Passed
 }
 
-// 11, then 12.
-pub fn check_cover(p: Tables, excited: &[u64], pre: &[u8]) -> Verdict
-    requires { ⌜ Bounded p × (length (now excited) ≡ 256) × (length (now pre) ≡ 1024) ⌝ }
-    ensures { λ r. ⌜ ((ms : Decomposition) (post : List ℕ) → MachinesTold (systemOf p) p ms → machinesRefusal (systemOf p) 0 ms ≡ none → MovesTold (systemOf p) ms (now (pre .entry)) post → Excitations (systemOf p .transitions) (now (excited .entry)) → verdictRefusal r ≡ coverRefusal (systemOf p) ms) ⌝ }
+// 11, then 12. Passed, the rows have what 11 and 12 ask for, the places as sets among it.
+pub fn check_cover(p: Tables, excited: &[u64], pre: &[u8], sets: &mut [u64]) -> Verdict
+    requires { ⌜ Bounded p × (length (now excited) ≡ 256) × (length (now pre) ≡ 1024) × PlaceSets (p .place) (p .states) 0 (now sets) ⌝ }
+    ensures { λ r. ⌜ ((ms : Decomposition) (post : List ℕ) → MachinesTold (systemOf p) p ms → machinesRefusal (systemOf p) 0 ms ≡ none → MovesTold (systemOf p) ms (now (pre .entry)) post → Excitations (systemOf p .transitions) (now (excited .entry)) → Judges (systemOf p) ms (now (pre .entry)) post (now (sets .exit)) (now (excited .entry)) r) ⌝ }
 {
     let machines = p.machines;
     let events = p.events;
@@ -153,7 +170,6 @@ pub fn check_cover(p: Tables, excited: &[u64], pre: &[u8]) -> Verdict
     if event < events {
         return Verdict::Refused(Refusal::IneffectiveEvent { event });
     }
-    let mut sets = [0u64; PLACE_WORDS];
-    add_machines(&p.place, p.states, machines, &mut sets);
-    check_closed(&sets, pre, excited, machines, events)
+    add_machines(&p.place, p.states, machines, sets);
+    check_closed(sets, pre, excited, machines, events)
 }

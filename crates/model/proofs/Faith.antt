@@ -181,7 +181,7 @@ module _ (p : TransitionSystem) (ms : Decomposition) (b : Within p) (g : (m : Ma
       (told j (at-below ms j m (x .numbered))
       ∙ moves-inside (getD qs j 0) v (rw (arc-iff p m (g m i) b (w m i) e v .1 (x .has)) at (h .lower j m l (x .numbered))))
 
-step-effective : (p : TransitionSystem) (ms : Decomposition) (qs : List ℕ) (e : ℕ) → T (effective p ms e) → productStep p ms qs e ≡ fireAll p e ms qs
+pub step-effective : (p : TransitionSystem) (ms : Decomposition) (qs : List ℕ) (e : ℕ) → T (effective p ms e) → productStep p ms qs e ≡ fireAll p e ms qs
 unfolding productStep
 step-effective p ms qs e t = cond-true (effective p ms e) (fireAll p e ms qs) none t
 
@@ -191,7 +191,7 @@ getD-zeros zero k = refl
 getD-zeros (suc n) zero = refl
 getD-zeros (suc n) (suc k) = getD-zeros n k
 
-getD-padded : (qs : List ℕ) (n k : ℕ) → length qs ≤ k → getD (qs ++ replicate n 0) k 0 ≡ 0
+pub getD-padded : (qs : List ℕ) (n k : ℕ) → length qs ≤ k → getD (qs ++ replicate n 0) k 0 ≡ 0
 getD-padded [] n k l = getD-zeros n k
 getD-padded (q ∷ qs) n zero l = absurd (omega arith)
 getD-padded (q ∷ qs) n (suc k) l = getD-padded qs n k (omega arith)

@@ -35,7 +35,7 @@ module _ (s : List ℕ) (v : Input) (p : Tables) (pre post : List ℕ) (told : T
   names-told (suc n) h = rw (take-suc (v .names) n [] h, names-told n (omega arith), told .name n h)
 
   -- the state is listed, since the machine passes 9
-  start-told : (k : ℕ) (m : Machine) → At (v .machines) k m → entry (p .place) (k * 256 + p .initial) ≡ placeOf m (v .initial)
+  pub start-told : (k : ℕ) (m : Machine) → At (v .machines) k m → entry (p .place) (k * 256 + p .initial) ≡ placeOf m (v .initial)
   start-told k m a =
       rw (told-initial told)
       (placed-at (told .tells-machines .machine k m a) (v .initial) (omega (arith, l .initial))

@@ -1,4 +1,4 @@
--- The check as far as 7, and Check and sheet, in the model's words, by what the code finds out on its way: whether the text is read, what 4 to 12 say of its
+-- The checks as far as 7 and 12, and Check and sheet, in the model's words, by what the code finds out on its way: whether the text is read, what 4 to 12 say of its
 -- value, and whether the sheet fits.
 use Prim.Native.Nat.{ℕ, _<_, _≤_}
 use mathlib.Core.Path.{_≡_, refl, ap, sym, _∙_}
@@ -66,21 +66,13 @@ module _ (s : List ℕ) where
     unfolding asFarAs7
     passed-7 h = rw (e, h)
 
--- ---- Check and sheet
+-- ---- as far as 12
 
-module _ (s out : List ℕ) where
-  -- this is what the call answers and leaves
-  abbrev pub Gives : Checked ℕ → List ℕ → Type 0
-  Gives a left = (a ≡ check s out .answer) × (left ≡ check s out .left)
-
-  gives-refusal : (r : Refusal) → asFarAs12 s ≡ refused r → Gives (refused r) out
-  unfolding check lend
-  gives-refusal r e = rw e (refl, refl)
-
+module _ (s : List ℕ) where
   -- refused by 1 to 3
-  pub unread : (r : Refusal) → refusalOf (read s) ≡ some r → Gives (refused r) out
+  pub unread-12 : (r : Refusal) → refusalOf (read s) ≡ some r → refusalOf (asFarAs12 s) ≡ some r
   unfolding asFarAs12 asFarAs10 asFarAs7
-  unread r e = gives-refusal r (rw (was-refused (read s) r e))
+  unread-12 r e = rw (was-refused (read s) r e)
 
   module _ (v : Input) (e : read s ≡ passed v) where
     in-one : asFarAs12 s ≡ (unless (refusalTo12 (system v) (v .machines)) >> passed v)
@@ -89,18 +81,33 @@ module _ (s out : List ℕ) where
         rw e
         (joined v (systemRefusal (system v)) (λ w. machinesRefusal (system w) 0 (w .machines)) (λ w. coverRefusal (system w) (w .machines)))
 
-    -- refused by 4 to 12
-    pub turned-down : (r : Refusal) → refusalTo12 (system v) (v .machines) ≡ some r → Gives (refused r) out
-    turned-down r h = gives-refusal r (rw h at in-one)
+    -- the refusal is that of 4 to 12
+    pub refusal-12 : refusalOf (asFarAs12 s) ≡ refusalTo12 (system v) (v .machines)
+    refusal-12 = rw in-one (only-check v (refusalTo12 (system v) (v .machines)))
 
-    module _ (h : refusalTo12 (system v) (v .machines) ≡ none) where
-      lends-sheet : check s out ≡ lend (passed (sheet v)) out
-      unfolding check
-      lends-sheet = rw (rw h at in-one)
+    pub passed-12 : refusalTo12 (system v) (v .machines) ≡ none → asFarAs12 s ≡ passed v
+    passed-12 h = rw h at in-one
 
-      -- refused by 13
-      pub too-short : length out < length (sheet v) → Gives (refused (refuse 13 (length (sheet v)) 0)) out
-      too-short l = rw (lends-sheet, lent-none (sheet v) out l) (refl, refl)
+-- ---- Check and sheet
 
-      pub accepted : length (sheet v) ≤ length out → Gives (passed (length (sheet v))) (sheet v ++ drop (length (sheet v)) out)
-      accepted l = rw (lends-sheet, lent-all (sheet v) out l) (refl, refl)
+module _ (s out : List ℕ) where
+  -- this is what the call answers and leaves
+  abbrev pub Gives : Checked ℕ → List ℕ → Type 0
+  Gives a left = (a ≡ check s out .answer) × (left ≡ check s out .left)
+
+  -- refused by 1 to 12
+  pub turned-down : (r : Refusal) → asFarAs12 s ≡ refused r → Gives (refused r) out
+  unfolding check lend
+  turned-down r e = rw e (refl, refl)
+
+  module _ (v : Input) (e : asFarAs12 s ≡ passed v) where
+    lends-sheet : check s out ≡ lend (passed (sheet v)) out
+    unfolding check
+    lends-sheet = rw e
+
+    -- refused by 13
+    pub too-short : length out < length (sheet v) → Gives (refused (refuse 13 (length (sheet v)) 0)) out
+    too-short l = rw (lends-sheet, lent-none (sheet v) out l) (refl, refl)
+
+    pub accepted : length (sheet v) ≤ length out → Gives (passed (length (sheet v))) (sheet v ++ drop (length (sheet v)) out)
+    accepted l = rw (lends-sheet, lent-all (sheet v) out l) (refl, refl)

@@ -1,18 +1,24 @@
 -- The model's words for an answer tell all of it, and so does the part that Name hands back.
 use Prim.Native.Nat.{ℕ}
-use mathlib.Core.Path.{_≡_, refl, ap, sym, _∙_}
+use mathlib.Core.Path.{_≡_, refl, ap, ap₂, sym, _∙_}
 use mathlib.Core.List.{List}
 use mathlib.Core.Option.{Option·some-ne-none, Option·some-injective}
 use denote.Ref.{RefT, now, ptr}
-use Rattle.model.specs.Services.{Part}
+use lib.ListN.{length}
+use Rattle.model.specs.Refusal.{passed}
+use Rattle.model.specs.Services.{Part, Kept}
 use Rattle.model.proofs.Cases.{tabled-injective}
 use Rattle.model.proofs.Verdicts.{refused-passed, same-refused, same-passed}
 use Rattle.reader.specs.declared.Verdict.{Verdict}
 use Rattle.reader.specs.declared.Verdict.the-variants as C
 use Rattle.reader.specs.Tables.{verdictRefusal}
+use Rattle.irredundant.specs.Kept.{setNumber}
+use Rattle.irredundant.proofs.SetNumber.{set-number-injective}
+use Rattle.splitter.specs.declared.Thinned.{Thinned}
+use Rattle.splitter.specs.declared.Thinned.the-variants as T
 use Rattle.splitter.specs.declared.Answer.{Answer}
 use Rattle.splitter.specs.declared.Answer.the-variants.{Refused, Accepted}
-use Rattle.splitter.specs.Answers.{answered, PartOf}
+use Rattle.splitter.specs.Answers.{answered, PartOf, thinned, numberedSet}
 
 pub answered-injective : (a b : Answer) → answered a ≡ answered b → a ≡ b
 unfolding answered
@@ -20,6 +26,18 @@ answered-injective (Refused x) (Refused y) e = ap Refused (tabled-injective x y 
 answered-injective (Refused x) (Accepted n) e = absurd (refused-passed _ n e)
 answered-injective (Accepted n) (Refused x) e = absurd (refused-passed _ n (sym e))
 answered-injective (Accepted m) (Accepted n) e = ap Accepted (same-passed m n e)
+
+pub thinned-injective : (a b : Thinned) → thinned a ≡ thinned b → a ≡ b
+unfolding thinned
+thinned-injective (T.Refused x) (T.Refused y) e = ap T.Refused (tabled-injective x y (same-refused _ _ e))
+thinned-injective (T.Refused x) (T.Kept m n) e = absurd (refused-passed _ (m, n) e)
+thinned-injective (T.Kept m n) (T.Refused x) e = absurd (refused-passed _ (m, n) (sym e))
+thinned-injective (T.Kept m n) (T.Kept l k) e = let q = same-passed (m, n) (l, k) e in ap₂ T.Kept (ap (λ x. x .0) q) (ap (λ x. x .1) q)
+
+-- the number tells the machines that are kept, of as many as there are
+pub set-told : (a b : Kept) → length (a .marks) ≡ length (b .marks) → numberedSet (passed a) ≡ numberedSet (passed b) → a .marks ≡ b .marks
+unfolding numberedSet
+set-told a b l e = set-number-injective (a .marks) (b .marks) l (ap (λ x. x .0) (same-passed (setNumber (a .marks), a .size) (setNumber (b .marks), b .size) e))
 
 pub verdict-injective : (a b : Verdict) → verdictRefusal a ≡ verdictRefusal b → a ≡ b
 unfolding verdictRefusal

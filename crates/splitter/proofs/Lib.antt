@@ -2,7 +2,7 @@
 
 -- a call that lends a list, by whether what it writes fits
 pub mod Lending
--- Check and sheet, and the check as far as 7, by the reading of the text and by what the later checks say of its value
+-- the checks as far as 7 and 12, and Check and sheet, by the reading of the text and by what the later checks say of its value
 pub mod Checking
 -- what the code knows of the text at each stage, and its answers
 pub mod Stages
@@ -12,5 +12,9 @@ pub mod Listing
 pub mod Records
 -- Name, by its ways out
 pub mod Naming
+-- Run, by its ways out
+pub mod Running
+-- Thin, by its ways out
+pub mod Thinning
 -- answers that the model takes for the same are the same
 pub mod Injective

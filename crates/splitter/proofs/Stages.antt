@@ -1,9 +1,9 @@
 -- What the code knows of a text once it is read, once it is past 7, and once it is past 12; and that each of its answers is the model's.
 use Prim.Native.Nat.{ℕ, _<_, _≤_}
-use mathlib.Core.Path.{_≡_, ap, sym, subst, _∙_}
+use mathlib.Core.Path.{_≡_, refl, ap, sym, subst, _∙_}
 use mathlib.Core.List.{List}
 use mathlib.Core.Option.{none}
-use lib.ListN.{length}
+use lib.ListN.{length, replicate}
 use lib.Seq.{sets}
 use Rattle.model.specs.declared.Refusal as D
 use Rattle.model.specs.declared.Refusal.the-variants.{BufferTooShort}
@@ -13,7 +13,7 @@ use Rattle.model.specs.TransitionSystem.{TransitionSystem, systemRefusal}
 use Rattle.model.specs.Machine.{Decomposition}
 use Rattle.model.specs.Text.{Input, system, read}
 use Rattle.model.specs.Sheet.{sheet}
-use Rattle.model.specs.Services.{asFarAs7}
+use Rattle.model.specs.Services.{asFarAs7, asFarAs12}
 use Rattle.model.proofs.Laws.{orElse-none}
 use Rattle.reader.specs.declared.Verdict.{Verdict}
 use Rattle.reader.specs.declared.Verdict.the-variants.{Refused, Passed}
@@ -22,28 +22,18 @@ use Rattle.reader.specs.declared.Reading.{Reading}
 use Rattle.reader.specs.Tables.{verdictRefusal, tablesOf}
 use Rattle.reader.specs.Told.{systemOf, MachinesTold, Told}
 use Rattle.reader.proofs.Bounds.{limits, bounded, names-inside}
-use Rattle.regions.specs.Moves.{MovesTold}
+use Rattle.closure.specs.Covers.{CoverTold}
+use Rattle.closure.proofs.Filling.{no-machines}
 use Rattle.checker.specs.Order.{refusalTo12}
-use Rattle.checker.proofs.Verdicts.{refuses, lets-pass}
+use Rattle.checker.proofs.Verdicts.{refuses, lets-pass, no-excitations}
 use Rattle.sheet.specs.Written.{rowSheet}
 use Rattle.sheet.proofs.Told.{told-sheet, lent}
 use Rattle.splitter.specs.declared.Answer.the-variants as A
 use Rattle.splitter.specs.Answers.{answered}
-use Rattle.splitter.specs.Stages.{Held, ReadAsFarAs7}
-use Rattle.splitter.proofs.Checking.{was-passed, unread-7, refusal-7, passed-7, Gives, unread, turned-down, too-short, accepted}
-
--- the text is read, and its value is past 12
-pub record Judged (s : List ℕ) (p : Tables) (pre post : List ℕ) : Type 0 where
-  pub held : Held (read s) s p
-  pub passes : refusalTo12 (system (held .value)) (held .value .machines) ≡ none
-  pub moves : MovesTold (system (held .value)) (held .value .machines) pre post
+use Rattle.splitter.specs.Stages.{Held, ReadAsFarAs7, Fresh, Judged, ReadAsFarAs12}
+use Rattle.splitter.proofs.Checking.{was-passed, refused-as, unread-7, refusal-7, passed-7, unread-12, refusal-12, passed-12, Gives, turned-down, too-short, accepted}
 
 -- ---- what the reader answers
-
-pub refused-reading : (s out : List ℕ) {r : Verdict} {why : D.Refusal} → verdictRefusal r ≡ refusalOf (read s) → r ≡ Refused why
-    → Gives s out (answered (A.Refused why)) out
-unfolding answered verdictRefusal
-refused-reading s out h e = unread s out _ (sym h ∙ ap verdictRefusal e)
 
 pub held : (s : List ℕ) (r : Verdict) (p : Tables) → verdictRefusal r ≡ refusalOf (read s) → r ≡ Passed → p ≡ tablesOf (read s)
     → ((v : Input) → read s ≡ passed v → Told s v p) → Held (read s) s p
@@ -73,6 +63,18 @@ module _ {s : List ℕ} {p : Tables} (h : Held (read s) s p) where
 
 -- ---- what 4 to 12 answer
 
+-- refused by 1 to 3
+pub refused-to-3-12 : {s : List ℕ} {r : Reading} {why : D.Refusal} {pre post sets excited : List ℕ} → verdictRefusal (r .verdict) ≡ refusalOf (read s)
+    → r .verdict ≡ Refused why → ReadAsFarAs12 s r pre post sets excited
+unfolding verdictRefusal
+refused-to-3-12 {s} {why = why} h e =
+    let q = ap verdictRefusal e in
+    record { verdict = q ∙ sym (unread-12 s (tabled why) (sym h ∙ q)); judged = λ n. refuses why (sym q ∙ n) }
+
+-- the rows as they are made
+pub fresh : Fresh (replicate 1024 255) (replicate 1024 0) (replicate 256 0) (replicate 4096 0)
+fresh = record { moves = record { pre-size = refl; post-size = refl }; excitations = no-excitations; places = no-machines }
+
 module _ {s : List ℕ} {p : Tables} (h : Held (read s) s p) where
   abbrev machines : Decomposition
   machines = h .value .machines
@@ -84,41 +86,47 @@ module _ {s : List ℕ} {p : Tables} (h : Held (read s) s p) where
   machines-told : MachinesTold (systemOf p) p machines
   machines-told = subst (λ (t : TransitionSystem). MachinesTold t p machines) (sym same) (h .told .tells-machines)
 
-  module _ (r : Verdict) (first : (ms : Decomposition) → MachinesTold (systemOf p) p ms → verdictRefusal r ≡ refusalTo12 (systemOf p) ms) where
-    verdict : refusalTo12 (system (h .value)) machines ≡ verdictRefusal r
-    verdict = rw (← same) (sym (first machines machines-told))
+  -- the verdict on what the rows tell is that on the text
+  pub judged-12 : (r : Verdict) {pre post sets excited : List ℕ} → ((ms : Decomposition) → MachinesTold (systemOf p) p ms → verdictRefusal r ≡ refusalTo12 (systemOf p) ms)
+      → ((ms : Decomposition) → MachinesTold (systemOf p) p ms → verdictRefusal r ≡ none → CoverTold (systemOf p) ms pre post sets excited)
+      → ReadAsFarAs12 s (record { verdict = r; tables = p }) pre post sets excited
+  judged-12 r {pre} {post} {sets} {excited} refusal cover =
+      let q = refusal machines machines-told ∙ ap (λ (t : TransitionSystem). refusalTo12 t machines) same in
+      record {
+        verdict = q ∙ sym (refusal-12 s (h .value) (h .passes));
+        judged = λ n.
+            record {
+              held = h;
+              passes = sym q ∙ n;
+              cover = subst (λ (t : TransitionSystem). CoverTold t machines pre post sets excited) same (cover machines machines-told n);
+            };
+      }
 
-    pub refused-value : (out : List ℕ) {why : D.Refusal} → r ≡ Refused why → Gives s out (answered (A.Refused why)) out
-    unfolding answered verdictRefusal
-    refused-value out e = turned-down s out (h .value) (h .passes) _ (verdict ∙ ap verdictRefusal e)
+-- ---- Check and sheet
 
-    pub judged : {pre post : List ℕ} → r ≡ Passed
-        → ((ms : Decomposition) → MachinesTold (systemOf p) p ms → verdictRefusal r ≡ none → MovesTold (systemOf p) ms pre post) → Judged s p pre post
-    judged {pre} {post} e moves =
-        let none = lets-pass e in
-        record {
-          held = h;
-          passes = verdict ∙ none;
-          moves = subst (λ (t : TransitionSystem). MovesTold t machines pre post) same (moves machines machines-told none);
-        }
+pub refused-text : (s out : List ℕ) {r : Verdict} {why : D.Refusal} → verdictRefusal r ≡ refusalOf (asFarAs12 s) → r ≡ Refused why
+    → Gives s out (answered (A.Refused why)) out
+unfolding answered
+refused-text s out h e = turned-down s out _ (refused-as h e)
 
--- ---- the sheet
-
-module _ {s : List ℕ} {p : Tables} {pre post : List ℕ} (j : Judged s p pre post) where
+module _ {s : List ℕ} {p : Tables} {pre post rows excited : List ℕ} (j : Judged s p pre post rows excited) where
   abbrev value : Input
   value = j .held .value
+
+  past-12 : asFarAs12 s ≡ passed value
+  past-12 = passed-12 s value (j .held .passes) (j .passes)
 
   sheet-told : rowSheet s p pre post ≡ sheet value
   unfolding refusalTo12
   sheet-told =
-      told-sheet s value p pre post (j .held .told) (j .moves) (orElse-none _ _ (orElse-none _ _ (j .passes) .1) .0) (limits s value (j .held .passes))
+      told-sheet s value p pre post (j .held .told) (j .cover .moves) (orElse-none _ _ (orElse-none _ _ (j .passes) .1) .0) (limits s value (j .held .passes))
 
   pub refused-buffer : (out : List ℕ) (size : ℕ) → size ≡ length (rowSheet s p pre post) → length out < size
       → Gives s out (answered (A.Refused (BufferTooShort size))) out
   unfolding answered tabled
   refused-buffer out size e l =
       let q = e ∙ ap length sheet-told in
-      rw q (too-short s out value (j .held .passes) (j .passes) (rw q at l))
+      rw q (too-short s out value past-12 (rw q at l))
 
   pub written : (out left : List ℕ) (size : ℕ) → size ≡ length (rowSheet s p pre post) → size ≤ length out → left ≡ sets out 0 (rowSheet s p pre post)
       → Gives s out (answered (A.Accepted size)) left
@@ -126,4 +134,4 @@ module _ {s : List ℕ} {p : Tables} {pre post : List ℕ} (j : Judged s p pre p
   written out left size e l w =
       let q = e ∙ ap length sheet-told in
       let fits = rw q at l in
-      rw (q, w, sheet-told, lent out (sheet value) fits) (accepted s out value (j .held .passes) (j .passes) fits)
+      rw (q, w, sheet-told, lent out (sheet value) fits) (accepted s out value past-12 fits)

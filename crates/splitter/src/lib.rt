@@ -5,14 +5,21 @@ ghost use lib.ListN.{length};
 ghost use Rattle.model.specs.Cases.{tabled, recorded};
 ghost use Rattle.model.specs.Services as Services;
 ghost use Rattle.reader.specs.Tables.{verdictRefusal};
-ghost use Rattle.splitter.specs.Answers.{answered, numbered, PartOf};
-ghost use Rattle.splitter.specs.Stages.{ReadAsFarAs7, writtenBy, Lists, NoPart, Named};
+ghost use Rattle.product.specs.Answers.{runAnswer};
+ghost use Rattle.splitter.specs.Answers.{answered, numbered, PartOf, thinned, numberedSet};
+ghost use Rattle.splitter.specs.Stages.{ReadAsFarAs7, Fresh, ReadAsFarAs12, writtenBy, Lists, NoPart, Named};
 use checker::check_as_far_as_12;
+use closure::PLACE_WORDS;
+use irredundant::remove_redundant;
 use listing::NUMBERS;
 use listing::fill;
 use listing::list_transitions;
 use model::Refusal;
 use model::Transition;
+use product::RunAnswer;
+use product::places_of;
+use product::refused;
+use product::run_events;
 use reader::Reading;
 use reader::Verdict;
 use reader::read;
@@ -68,24 +75,46 @@ pub fn numbers(why: Refusal) -> RefusalNumbers
     }
 }
 
+// The text's rows, and its refusal as far as 12; passed, the other rows have its machines' moves and places and the excitation sets.
+fn read_as_far_as_12(
+    text: &[u8],
+    pre: &mut [u8],
+    post: &mut [u8],
+    excited: &mut [u64],
+    sets: &mut [u64],
+) -> Reading
+    requires { ⌜ Fresh (now pre) (now post) (now excited) (now sets) ⌝ }
+    ensures { λ r. ⌜ ReadAsFarAs12 (now (text .entry)) r (now (pre .exit)) (now (post .exit)) (now (sets .exit)) (now (excited .exit)) ⌝ }
+{
+    let reading = read(text);
+    let form = reading.verdict;
+    if let Verdict::Refused(_) = form {
+        return reading;
+    }
+    let tables = reading.tables;
+    let judged = check_as_far_as_12(tables, pre, post, excited, sets);
+    Reading {
+        verdict: judged,
+        tables,
+    }
+}
+
 // Check and sheet: the sheet into the first bytes of the lent buffer, or the refusal and no byte changed.
 pub fn check(text: &[u8], out: &mut [u8]) -> Answer
     ensures { λ r. ⌜ answered r ≡ Services.check (now (text .entry)) (now (out .entry)) .answer ⌝ }
     ensures { λ _. ⌜ now (out .exit) ≡ Services.check (now (text .entry)) (now (out .entry)) .left ⌝ }
 {
-    let reading = read(text);
-    let form = reading.verdict;
-    if let Verdict::Refused(why) = form {
-        return Answer::Refused(why);
-    }
-    let tables = reading.tables;
     let lent = out.len();
     let mut pre = [NOT_ON; MOVES];
     let mut post = [0u8; MOVES];
-    let verdict = check_as_far_as_12(tables, &mut pre, &mut post);
+    let mut excited = [0u64; EXCITATION_WORDS];
+    let mut sets = [0u64; PLACE_WORDS];
+    let reading = read_as_far_as_12(text, &mut pre, &mut post, &mut excited, &mut sets);
+    let verdict = reading.verdict;
     if let Verdict::Refused(fault) = verdict {
         return Answer::Refused(fault);
     }
+    let tables = reading.tables;
     let size = sheet_len(tables, &pre, &post);
     if lent < size {
         return Answer::Refused(Refusal::BufferTooShort { needed: size });
@@ -205,4 +234,52 @@ pub fn name_refusal(text: &[u8], event: usize) -> Verdict
 {
     let part = find_name(text, event);
     part.verdict
+}
+
+// Run: the events one after another on the machines together, from the places with the initial state.
+pub fn run(text: &[u8], events: &[u8]) -> RunAnswer
+    ensures { λ r. ⌜ runAnswer r ≡ Services.run (now (text .entry)) (now (events .entry)) ⌝ }
+{
+    let mut pre = [NOT_ON; MOVES];
+    let mut post = [0u8; MOVES];
+    let mut excited = [0u64; EXCITATION_WORDS];
+    let mut sets = [0u64; PLACE_WORDS];
+    let reading = read_as_far_as_12(text, &mut pre, &mut post, &mut excited, &mut sets);
+    let verdict = reading.verdict;
+    if let Verdict::Refused(why) = verdict {
+        return refused(why);
+    }
+    let tables = reading.tables;
+    let machines = tables.machines;
+    let declared = tables.events;
+    let start = places_of(&tables.place, tables.initial, machines);
+    run_events(&pre, &post, machines, declared, start, events)
+}
+
+// The answer of Thin.
+pub enum Thinned {
+    Refused(Refusal),
+    // the machines that are kept, bit i for machine i, and how many they are
+    Kept { machines: u16, size: usize },
+}
+
+// Thin: from the highest machine to the lowest, a machine is dropped if those still kept suffice without it.
+pub fn thin(text: &[u8]) -> Thinned
+    ensures { λ r. ⌜ thinned r ≡ numberedSet (Services.thin (now (text .entry))) ⌝ }
+{
+    let mut pre = [NOT_ON; MOVES];
+    let mut post = [0u8; MOVES];
+    let mut excited = [0u64; EXCITATION_WORDS];
+    let mut sets = [0u64; PLACE_WORDS];
+    let reading = read_as_far_as_12(text, &mut pre, &mut post, &mut excited, &mut sets);
+    let verdict = reading.verdict;
+    if let Verdict::Refused(why) = verdict {
+        return Thinned::Refused(why);
+    }
+    let tables = reading.tables;
+    let kept = remove_redundant(&excited, &sets, &pre, tables.machines, tables.events);
+    Thinned::Kept {
+        machines: kept.machines,
+        size: kept.size,
+    }
 }

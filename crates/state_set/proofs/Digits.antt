@@ -13,11 +13,11 @@ use lib.Pow.{shr-shr, pow-pos}
 use Rattle.state_set.specs.Member.{bit}
 
 -- ---- digit 0, and the digits above it
-bit-zero : (w : ℕ) → bit w 0 ≡ eqb (w % 2) 1
+pub bit-zero : (w : ℕ) → bit w 0 ≡ eqb (w % 2) 1
 unfolding bit
 bit-zero w = ap (λ (x : ℕ). eqb (x % 2) 1) (div-one w)
 
-bit-suc : (w i : ℕ) → bit w (suc i) ≡ bit (w / 2) i
+pub bit-suc : (w i : ℕ) → bit w (suc i) ≡ bit (w / 2) i
 unfolding bit
 bit-suc w i = ap (λ (x : ℕ). eqb (x % 2) 1) (sym (shr-shr w 1 i ∙ ap (λ (k : ℕ). w / 2 ^ k) (one-add i)))
 

@@ -155,7 +155,7 @@ pub fn load(row: &[u64], k: usize) -> StateSet
     }
 }
 
-fn store(row: &mut [u64], k: usize, a: StateSet)
+pub fn store(row: &mut [u64], k: usize, a: StateSet)
     requires { ⌜ k * 4 + 3 < length (now row) ⌝ }
     ensures { λ _. ⌜ Stored k a (now (row .entry)) (now (row .exit)) ⌝ }
 {

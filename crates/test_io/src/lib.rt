@@ -16,6 +16,14 @@ pub fn put_number(n: usize) {
     io::print_decimal(STDOUT_FILENO, n as u64);
 }
 
+// A refusal by document 01's number and its details, without the bracket that ends it.
+pub fn put_refused(number: usize, detail: usize, second: usize) {
+    put(b"(refused");
+    put_number(number);
+    put_number(detail);
+    put_number(second);
+}
+
 // The number that two bytes give, the higher first.
 pub fn size(high: u8, low: u8) -> usize
     ensures { λ r. ⌜ (r ≡ high * 256 + low) × (r ≤ 65535) ⌝ }

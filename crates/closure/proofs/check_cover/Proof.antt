@@ -1,8 +1,8 @@
 -- `closure::check_cover` meets its contract: 11 by the rows, 12 by the sets. The laws are in `Cover`.
+use mathlib.Core.Path.{refl}
 use borrow.Author.Needs.{needs}
 use Rattle.model.specs.Cases.{tabled}
 use Rattle.reader.specs.Tables.{verdictRefusal}
-use Rattle.closure.proofs.Filling.{no-machines}
 use Rattle.closure.proofs.Cover.{cover-refused, cover-passed}
 use Rattle.closure.proofs.check_cover.Statement.{statement}
 use Rattle.closure.proofs.check_cover.Tie as tie
@@ -14,36 +14,25 @@ returns : tie.Need-returns
 unfolding verdictRefusal tabled
 returns c ms post told passed moves excited =
     let b = c .before in
-    cover-refused _ (b .before .before .before .pre .0) ms _ post told passed moves _ (b .ineffective-event .ensures) (c .if1 .taken)
-
-slice-aggregate-add-machines : tie.Need-slice-aggregate-add-machines
-slice-aggregate-add-machines c = search needs
+    cover-refused _ (b .before .before .before .before .pre .0) ms _ post told passed moves _ (b .ineffective-event .ensures) _ _ (c .if1 .taken) refl
 
 add-machines-requires : tie.Need-add-machines-requires
-add-machines-requires c κs = (search needs, search needs, search needs, no-machines _ _)
-
-slice-aggregate-check-closed : tie.Need-slice-aggregate-check-closed
-slice-aggregate-check-closed c = search needs
+add-machines-requires c κs = search needs
 
 check-closed-requires : tie.Need-check-closed-requires
 check-closed-requires c κs = search needs
 
+same-length : tie.Need-same-length
+same-length c = search needs
+
 returns-2 : tie.Need-returns-2
 returns-2 c ms post told passed moves excited =
-    let filled = c .before .before .before in
+    let filled = c .before .before .before .before in
     let other = filled .before .before .before .before .before in
     let b = other .before in
-    cover-passed _ (b .before .before .before .pre .0) ms _ post told passed moves _ (b .ineffective-event .ensures) _ _ (other .if1 .left) excited
+    cover-passed _ (b .before .before .before .before .pre .0) ms _ post told passed moves _ (b .ineffective-event .ensures) _ _ (other .if1 .left) excited
     (filled .add-machines .ensures) (c .check-closed .ensures)
 
 pub check-cover-spec : {M : Type 1} → statement M
 check-cover-spec =
-    tie.close
-    (tie.spec
-    ineffective-event-requires
-    returns
-    slice-aggregate-add-machines
-    add-machines-requires
-    slice-aggregate-check-closed
-    check-closed-requires
-    returns-2)
+    tie.close (tie.spec ineffective-event-requires returns add-machines-requires check-closed-requires same-length returns-2)

@@ -1,0 +1,86 @@
+-- The states common to pre-places on the machines before each machine, one machine further, event by event.
+use Prim.Native.Nat.{ℕ, suc, _+_, _*_, _<_, _≤_}
+use native.Mathlib.Omega.{arith}
+use mathlib.Core.Path.{_≡_, refl, sym, _∙_}
+use mathlib.Core.Logic.{_⊎_, inl, inr}
+use mathlib.Core.Bool.{_&&_}
+use mathlib.Core.List.{List}
+use lib.ListN.{length, replicate}
+use Rattle.model.proofs.Laws.{below-suc}
+use Rattle.state_set.specs.declared.StateSet.{StateSet}
+use Rattle.state_set.specs.Member.{member}
+use Rattle.state_set.specs.Rows.{setAt, memberAt, Stored}
+use Rattle.closure.specs.Covers.{meets, commonTo}
+use Rattle.irredundant.specs.Kept.{Extends, Below}
+use Rattle.irredundant.proofs.Storing.{stored-here, stored-else, fullWord, full-row}
+
+-- ---- one machine, event by event
+-- the sets of machine m + 1 are there for the first e events, and those before are as they were
+pub record Extending (sets pre : List ℕ) (m events : ℕ) (old new : List ℕ) (e : ℕ) : Type 0 where
+  pub most : e ≤ events
+  pub size : length new ≡ length old
+  pub next : (j i : ℕ) → j < e → memberAt new (suc m * 64 + j) i ≡ (memberAt old (m * 64 + j) i && meets sets pre j m i)
+  pub before : (j i : ℕ) → j < suc m * 64 → memberAt new j i ≡ memberAt old j i
+
+module _ {sets pre : List ℕ} {m events : ℕ} {old : List ℕ} where
+  pub extend-start : Extending sets pre m events old old 0
+  extend-start = record { most = omega arith; size = refl; next = λ j i l. absurd (omega arith); before = λ j i l. refl }
+
+  -- a is the set of event e on machine m, and b what is met
+  pub extend-more :
+      {row row2 : List ℕ} {e k : ℕ} (a b : StateSet) → events ≤ 64 → Extending sets pre m events old row e → e < events → a ≡ setAt row (m * 64 + e)
+      → ((i : ℕ) → member b i ≡ (member a i && meets sets pre e m i)) → k ≡ suc m * 64 + e → Stored k b row row2
+      → Extending sets pre m events old row2 (e + 1)
+  unfolding memberAt
+  extend-more {row} {row2} {e} {k} a b small x l v w q s =
+      record {
+        most = omega arith;
+        size = s .size ∙ x .size;
+        next = λ j i h. at j i (below-suc j e (omega arith));
+        before = λ j i h. stored-else s j i (λ p. omega arith) ∙ x .before j i h;
+      }
+    where
+      at : (j i : ℕ) → (j < e) ⊎ (j ≡ e) → memberAt row2 (suc m * 64 + j) i ≡ (memberAt old (m * 64 + j) i && meets sets pre j m i)
+      at j i (inl h) = stored-else s (suc m * 64 + j) i (λ p. omega arith) ∙ x .next j i h
+      at j i (inr h) =
+          stored-here s (suc m * 64 + j) i (omega arith) ∙ w i
+          ∙ rw (v, h, sym (x .before (m * 64 + e) i (omega arith)))
+
+  pub extend-end : {row : List ℕ} {e : ℕ} → Extending sets pre m events old row e → events ≤ e → Extends sets pre m events old row
+  extend-end x l = record { size = x .size; next = λ j i h. x .next j i (omega arith); before = x .before }
+
+-- ---- machine by machine
+-- the sets of the first m machines, which are at least one
+pub record Extended (sets pre : List ℕ) (events : ℕ) (row : List ℕ) (m : ℕ) : Type 0 where
+  pub one : 1 ≤ m
+  pub most : m ≤ 16
+  pub made : Below sets pre m events row
+
+-- no machine is before the first, so all states are common
+pub below-first : (sets pre : List ℕ) (events : ℕ) → events ≤ 64 → Below sets pre 1 events (replicate 4096 fullWord)
+unfolding commonTo
+below-first sets pre events few = record { size = refl; common = λ k e i l b. at k e i b (omega arith) }
+  where
+    at : (k e i : ℕ) → e < events → k ≡ 0 → memberAt (replicate 4096 fullWord) (k * 64 + e) i ≡ commonTo sets pre e k i
+    at k e i b q = rw q (full-row 4096 (0 * 64 + e) i (omega arith))
+
+module _ {sets pre : List ℕ} {events : ℕ} where
+  pub below-start : {row : List ℕ} → Below sets pre 1 events row → Extended sets pre events row 1
+  below-start b = record { one = omega arith; most = omega arith; made = b }
+
+  pub below-more : {row row2 : List ℕ} {m n : ℕ} → events ≤ 64 → Extended sets pre events row m → m < 16 → m ≡ suc n → Extends sets pre n events row row2
+      → Extended sets pre events row2 (m + 1)
+  unfolding commonTo
+  below-more {row} {row2} {m} {n} small x l q g =
+      record {
+        one = omega arith;
+        most = omega arith;
+        made = record { size = g .size ∙ x .made .size; common = λ k e i h b. at k e i b (below-suc k m (omega arith)) };
+      }
+    where
+      at : (k e i : ℕ) → e < events → (k < m) ⊎ (k ≡ m) → memberAt row2 (k * 64 + e) i ≡ commonTo sets pre e k i
+      at k e i b (inl h) = g .before (k * 64 + e) i (omega arith) ∙ x .made .common k e i h b
+      at k e i b (inr h) = rw (h, q) (g .next e i b ∙ rw (x .made .common n e i (omega arith) b))
+
+  pub below-end : {row : List ℕ} {m machines : ℕ} → Extended sets pre events row m → machines ≤ m → Below sets pre machines events row
+  below-end x l = record { size = x .made .size; common = λ k e i h b. x .made .common k e i (omega arith) b }

@@ -1,0 +1,55 @@
+-- The set of kept machines as a number, and how the rows tell whether a machine is redundant.
+use Prim.Native.Nat.{ℕ, suc, _+_, _*_, _<_}
+use mathlib.Core.Path.{_≡_}
+use mathlib.Core.Bool.{Bool, false, not, cond, _&&_, _||_}
+use mathlib.Core.List.{List, [], _∷_}
+use lib.ListN.{length, getD}
+use Rattle.model.specs.Lists.{count, isSome, lowest}
+use Rattle.model.specs.TransitionSystem.{TransitionSystem}
+use Rattle.model.specs.Machine.{Decomposition, keptMarks}
+use Rattle.state_set.specs.Rows.{memberAt}
+use Rattle.closure.specs.Covers.{onMachine, onSome, meets, commonTo}
+use Rattle.irredundant.specs.declared.Kept.{Kept}
+
+-- the set of machines that marks give as a number: bit i is machine i
+unfoldable pub setNumber : List Bool → ℕ
+setNumber [] = 0
+setNumber (k ∷ ks) = cond k 1 0 + 2 * setNumber ks
+
+-- what Thin keeps, as a number and a count
+pub record Keeps (ts : TransitionSystem) (ms : Decomposition) (r : Kept) : Type 0 where
+  pub machines : r .machines ≡ setNumber (keptMarks ts ms)
+  pub size : r .size ≡ count (λ b. b) (keptMarks ts ms)
+
+-- no number below n passes the test
+unfoldable pub noneBelow : (ℕ → Bool) → ℕ → Bool
+noneBelow f n = not (isSome (lowest f n))
+
+pub record Sizes (sets pre below : List ℕ) : Type 0 where
+  pub sets-size : length sets ≡ 4096
+  pub pre-size : length pre ≡ 1024
+  pub below-size : length below ≡ 4096
+
+-- the sets of machine m + 1 are made from those of machine m, and those before are as they were
+pub record Extends (sets pre : List ℕ) (m events : ℕ) (old new : List ℕ) : Type 0 where
+  pub size : length new ≡ length old
+  pub next : (e i : ℕ) → e < events → memberAt new (suc m * 64 + e) i ≡ (memberAt old (m * 64 + e) i && meets sets pre e m i)
+  pub before : (j i : ℕ) → j < suc m * 64 → memberAt new j i ≡ memberAt old j i
+
+-- set k * 64 + e has the states common to the pre-places of event e on the machines before k
+pub record Below (sets pre : List ℕ) (machines events : ℕ) (row : List ℕ) : Type 0 where
+  pub size : length row ≡ 4096
+  pub common : (k e i : ℕ) → k < machines → e < events → memberAt row (k * 64 + e) i ≡ commonTo sets pre e k i
+
+-- machine m is one of those that hold each event and whose pre-places are met
+pub record Adds (sets pre : List ℕ) (m events : ℕ) (above : List ℕ) (held : List Bool) (above2 : List ℕ) (held2 : List Bool) : Type 0 where
+  pub above-size : length above2 ≡ length above
+  pub held-size : length held2 ≡ length held
+  pub common : (e i : ℕ) → e < events → memberAt above2 e i ≡ (memberAt above e i && meets sets pre e m i)
+  pub on : (e : ℕ) → e < events → getD held2 e false ≡ (getD held e false || onMachine pre e m)
+
+-- event e is on a machine before m or on one after it that is kept, and no state outside its excitation set is common to its pre-places there
+unfoldable pub coveredWithout : List ℕ → List ℕ → List ℕ → List Bool → List ℕ → ℕ → ℕ → Bool
+coveredWithout pre below above held excited m e =
+    (getD held e false || onSome pre e m)
+    && noneBelow (λ i. (memberAt below (m * 64 + e) i && memberAt above e i) && not (memberAt excited e i)) 256

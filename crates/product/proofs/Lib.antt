@@ -1,0 +1,13 @@
+-- The laws behind Run.
+
+-- the row of the machines' places
+pub mod Places
+-- an event on the machines together: by the rows of their moves, and in the model's words
+pub mod Moving
+pub mod Firing
+-- events that are not declared
+pub mod Unknown
+-- the events one after another
+pub mod Running
+-- the model's words for an answer tell all of it
+pub mod Injective

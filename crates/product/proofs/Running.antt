@@ -1,0 +1,95 @@
+-- The events one after another: as far as they ran, the model's run goes on from where the machines stand.
+use Prim.Native.Nat.{ℕ, suc, _+_, _<_, _≤_}
+use native.Mathlib.Numerals.{add-one}
+use native.Mathlib.Omega.{arith}
+use mathlib.Core.Path.{_≡_, _∙_, subst}
+use mathlib.Core.List.{List}
+use lib.ListN.{length, take, drop, drop-of-length-le}
+use lib.Seq.{drop-cons}
+use Rattle.model.specs.TransitionSystem.{TransitionSystem}
+use Rattle.model.specs.Machine.{Decomposition}
+use Rattle.model.specs.Services.{Ran, oneMore, runFrom, outcomeOf, ranAnswer}
+use Rattle.model.proofs.Running.{run-stops, run-goes}
+use Rattle.reader.specs.Told.{entry}
+use Rattle.product.specs.declared.Outcome.the-variants.{Whole, Blocked}
+use Rattle.product.specs.declared.Stepped.{Stepped}
+use Rattle.product.specs.Answers.{outcomeIs, runAnswer}
+use Rattle.product.specs.Stepping.{Steps, sixteen, Runs, runsFrom}
+use Rattle.product.proofs.Firing.{step-moves, runs-on, step-blocks}
+
+-- n events ran before
+abbrev after : ℕ → Ran → Ran
+after n r = record { ran = n + r .ran; blocked = r .blocked; places = r .places }
+
+after-none : (r : Ran) → r ≡ after 0 r
+after-none r = let z : 0 + r .ran ≡ r .ran = omega arith in rw z
+
+after-one : (n : ℕ) (r : Ran) → after n (oneMore r) ≡ after (n + 1) r
+unfolding oneMore
+after-one n r = let z : n + suc (r .ran) ≡ n + 1 + r .ran = omega arith in rw z
+
+-- where the machines stand once `ran` events ran: the run goes on from there
+pub record Reached (ts : TransitionSystem) (ms : Decomposition) (pre post : List ℕ) (machines : ℕ) (qs events places : List ℕ) (ran : ℕ) : Type 0 where
+  pub at : List ℕ
+  pub runs : Runs ts ms pre post machines at places
+  pub rest : runFrom ts ms qs events ≡ after ran (runFrom ts ms at (drop ran events))
+
+-- every event is one of the system's
+abbrev Known : TransitionSystem → List ℕ → Type 0
+Known ts events = (i : ℕ) → i < length events → entry events i < ts .events
+
+-- `ran` of the events ran
+pub record Running (pre post : List ℕ) (machines : ℕ) (start events places : List ℕ) (ran : ℕ) : Type 0 where
+  pub most : ran ≤ length events
+  pub reached : (ts : TransitionSystem) (ms : Decomposition) (qs : List ℕ) → Runs ts ms pre post machines qs start → Known ts events
+      → Reached ts ms pre post machines qs events places ran
+
+module _ {pre post : List ℕ} {machines : ℕ} {start events : List ℕ} where
+  pub run-start : Running pre post machines start events start 0
+  run-start =
+      record {
+        most = omega arith;
+        reached = λ ts ms qs r k. record { at = qs; runs = r; rest = after-none (runFrom ts ms qs events) };
+      }
+
+  module _ (few : machines ≤ 16) {places : List ℕ} {ran : ℕ} (run : Running pre post machines start events places ran) where
+    module _ (l : ran < length events) {e : ℕ} (v : e ≡ entry events ran) {s : Stepped} (made : Steps pre post machines places e s) where
+      steps : Steps pre post machines places (entry events ran) s
+      steps = subst (λ (x : ℕ). Steps pre post machines places x s) v made
+
+      -- the next event runs
+      pub run-more : machines ≤ s .blocker → Running pre post machines start events (s .places) (ran + 1)
+      run-more h =
+          record {
+            most = omega arith;
+            reached = λ ts ms qs r k.
+                let w = run .reached ts ms qs r k in
+                let rs = take machines (s .places) in
+                let es = drop (suc ran) events in
+                let goes = run-goes ts ms (w .at) rs (entry events ran) es (step-moves (w .runs) few (k ran l) steps h) in
+                record {
+                  at = rs;
+                  runs = runs-on (w .runs) few (k ran l) steps;
+                  rest = w .rest ∙ rw (drop-cons events ran 0 l, goes) (after-one ran (runFrom ts ms rs es) ∙ rw (add-one ran));
+                };
+          }
+
+      -- a machine blocks it
+      pub run-blocked : s .blocker < machines
+          → (ts : TransitionSystem) (ms : Decomposition) (qs : List ℕ) → Runs ts ms pre post machines qs start → Known ts events
+          → runAnswer (record { outcome = Blocked ran (s .blocker); places = places }) ≡ runsFrom ts ms qs events
+      unfolding runAnswer outcomeIs runsFrom ranAnswer outcomeOf sixteen
+      run-blocked h ts ms qs r k =
+          let w = run .reached ts ms qs r k in
+          let b = step-blocks (w .runs) few (k ran l) steps h in
+          let z : ran + 0 ≡ ran = omega arith in
+          rw (w .rest, drop-cons events ran 0 l, run-stops ts ms (w .at) (entry events ran) (drop (suc ran) events) (b .0), b .1, z, w .runs .standing)
+
+    -- all ran
+    pub run-end : length events ≤ ran
+        → (ts : TransitionSystem) (ms : Decomposition) (qs : List ℕ) → Runs ts ms pre post machines qs start → Known ts events
+        → runAnswer (record { outcome = Whole; places = places }) ≡ runsFrom ts ms qs events
+    unfolding runAnswer outcomeIs runsFrom runFrom ranAnswer outcomeOf sixteen
+    run-end h ts ms qs r k =
+        let w = run .reached ts ms qs r k in
+        rw (w .rest, drop-of-length-le events h, w .runs .standing)

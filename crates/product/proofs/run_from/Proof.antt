@@ -1,0 +1,66 @@
+-- `product::run_from` meets its contract: the events passed ran. The laws are in `Running`.
+use Prim.Native.Nat.{_-_}
+use native.Mathlib.Omega.{arith}
+use borrow.Author.Needs.{needs}
+use lib.ListN.{length}
+use Rattle.product.proofs.Running.{Running, run-start, run-more, run-blocked, run-end}
+use Rattle.product.proofs.run_from.Statement.{statement}
+use Rattle.product.proofs.run_from.Tie as tie
+
+abbrev Inv-loop : tie.InvT-loop
+Inv-loop pre post machines events places₀ ran₀ places ran = Running pre post machines places₀ events places ran
+
+abbrev μ-loop : tie.MeasureT-loop
+μ-loop pre post machines events places₀ ran₀ places ran = length events - ran
+
+loop-holds : tie.Need-loop-holds Inv-loop μ-loop
+loop-holds c = run-start
+
+shared-slice-read-wide : tie.Need-shared-slice-read-wide Inv-loop μ-loop
+shared-slice-read-wide c = search needs
+
+wide-requires : tie.Need-wide-requires Inv-loop μ-loop
+wide-requires c κs = search needs
+
+step-requires : tie.Need-step-requires Inv-loop μ-loop
+step-requires c κs =
+    let b = c .before .before in
+    let start = b .before .before .before .before .before in
+    (start .pre .0, omega (arith, c .wide .ensures .0, start .pre .2 (b .before .loop .ran) (b .loop-test .taken)), start .pre .1)
+
+returns : tie.Need-returns Inv-loop μ-loop
+returns c =
+    let b = c .before .before .before .before in
+    run-blocked (b .before .before .before .before .before .pre .0) (b .before .loop .inv) (b .loop-test .taken) (c .before .before .wide .ensures .0)
+    (c .before .step .ensures) (c .if1 .taken)
+
+add-ran : tie.Need-add-ran Inv-loop μ-loop
+add-ran c = search needs
+
+loop-less : tie.Need-loop-less Inv-loop μ-loop
+loop-less c = search needs
+
+loop-again : tie.Need-loop-again Inv-loop μ-loop
+loop-again c =
+    let b = c .before .before .before .before .before in
+    run-more (b .before .before .before .before .before .pre .0) (b .before .loop .inv) (b .loop-test .taken) (c .before .before .before .wide .ensures .0)
+    (c .before .before .step .ensures) (c .before .if1 .left)
+
+returns-2 : tie.Need-returns-2 Inv-loop μ-loop
+returns-2 c = run-end (c .before .before .before .before .before .pre .0) (c .before .loop .inv) (c .loop-test .left)
+
+pub run-from-spec : {M : Type 1} → statement M
+run-from-spec =
+    tie.close
+    (tie.spec
+    Inv-loop
+    μ-loop
+    loop-holds
+    shared-slice-read-wide
+    wide-requires
+    step-requires
+    returns
+    add-ran
+    loop-less
+    loop-again
+    returns-2)

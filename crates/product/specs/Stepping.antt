@@ -1,0 +1,55 @@
+-- How the machines stand and step, by the rows of their moves.
+use Prim.Native.Nat.{ℕ, _-_, _≤_, _<_}
+use mathlib.Core.Path.{_≡_}
+use mathlib.Core.Bool.{true, not}
+use mathlib.Core.List.{List, _++_}
+use mathlib.Core.Option.{Option, some}
+use lib.Dec.{ltb}
+use lib.ListN.{length, replicate}
+use Rattle.model.specs.Lists.{isSome, index, lowest}
+use Rattle.model.specs.Refusal.{refuse, passed, need, _>>_}
+use Rattle.model.specs.TransitionSystem.{TransitionSystem, declared}
+use Rattle.model.specs.Machine.{Decomposition, effective, moveFrom}
+use Rattle.model.specs.Services as Services
+use Rattle.reader.specs.Told.{entry, below}
+use Rattle.regions.specs.Moves.{moveAt, MovesTold}
+use Rattle.product.specs.declared.Stepped.{Stepped}
+
+-- each of the first machines stands in its place, and there is 0 for machine numbers not in use
+pub record Standing (place : ℕ → ℕ) (machines : ℕ) (row : List ℕ) : Type 0 where
+  pub size : length row ≡ 16
+  pub stands : (k : ℕ) → k < machines → entry row k ≡ place k
+  pub unused : (k : ℕ) → machines ≤ k → entry row k ≡ 0
+
+-- where machine k stands once e has run; none if it blocks
+unfoldable pub firesAt : List ℕ → List ℕ → List ℕ → ℕ → ℕ → Option ℕ
+firesAt pre post places e k = moveFrom (entry places k) (moveAt pre post k e)
+
+-- the lowest machine that blocks e, and the places as they were; or all have moved
+pub record Steps (pre post : List ℕ) (machines : ℕ) (places : List ℕ) (e : ℕ) (r : Stepped) : Type 0 where
+  pub blocker : below machines (r .blocker) ≡ lowest (λ k. not (isSome (firesAt pre post places e k))) machines
+  pub stay : r .blocker < machines → r .places ≡ places
+  pub size : length (r .places) ≡ 16
+  pub move : machines ≤ r .blocker → (k : ℕ) → k < machines → firesAt pre post places e k ≡ some (entry (r .places) k)
+  pub others : (k : ℕ) → machines ≤ k → entry (r .places) k ≡ entry places k
+
+-- the places of all machines, and 0 for machine numbers not in use
+unfoldable pub sixteen : List ℕ → List ℕ
+sixteen qs = qs ++ replicate (16 - length qs) 0
+
+-- the rows tell the machines' moves, each event is on a machine, and they stand in the places qs
+pub record Runs (ts : TransitionSystem) (ms : Decomposition) (pre post : List ℕ) (machines : ℕ) (qs row : List ℕ) : Type 0 where
+  pub moves : MovesTold ts ms pre post
+  pub effective : (e : ℕ) → e < ts .events → effective ts ms e ≡ true
+  pub counted : machines ≡ length ms
+  pub one-each : length qs ≡ length ms
+  pub standing : row ≡ sixteen qs
+
+-- what Run answers of declared events from these places, and of any
+unfoldable pub runsFrom : TransitionSystem → Decomposition → List ℕ → List ℕ → Services.RunAnswer
+runsFrom ts ms qs es = Services.ranAnswer (passed (Services.runFrom ts ms qs es))
+
+unfoldable pub runsEvents : TransitionSystem → Decomposition → List ℕ → List ℕ → Services.RunAnswer
+runsEvents ts ms qs es =
+    Services.ranAnswer
+    (need (refuse 14 (index (λ e. not (ltb e (ts .events))) es) 0) (declared ts es) >> passed (Services.runFrom ts ms qs es))

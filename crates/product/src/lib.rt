@@ -1,0 +1,162 @@
+// Run: the machines together, from given places over a list of events.
+ghost use mathlib.Core.Path.{_≡_};
+ghost use mathlib.Core.Bool.{not};
+ghost use mathlib.Core.List.{List};
+ghost use Prim.Native.Nat.{ℕ, _*_, _+_, _<_, _≤_};
+ghost use lib.Dec.{ltb};
+ghost use lib.ListN.{length};
+ghost use Rattle.model.specs.Lists.{index};
+ghost use Rattle.model.specs.TransitionSystem.{TransitionSystem};
+ghost use Rattle.model.specs.Machine.{Decomposition};
+ghost use Rattle.reader.specs.Told.{entry};
+ghost use Rattle.regions.specs.Moves.{MoveRows};
+ghost use Rattle.product.specs.Answers.{runAnswer, turnedDown};
+ghost use Rattle.product.specs.Stepping.{Standing, Steps, Runs, runsFrom, runsEvents};
+use model::MAX_EVENTS;
+use model::MAX_MACHINES;
+use model::MAX_PLACES;
+use model::MAX_STATES;
+use model::Refusal;
+use reader::wide;
+
+// What became of a list of events.
+pub enum Outcome {
+    // it ran to its end
+    Whole,
+    // so many events ran, and this is the lowest machine that blocked the next
+    Blocked { ran: usize, machine: usize },
+    Refused(Refusal),
+}
+
+// The place of each machine, 0 for machine numbers not in use; all 0 where the call is refused.
+pub struct RunAnswer {
+    pub outcome: Outcome,
+    pub places: [u8; MAX_MACHINES],
+}
+
+pub fn refused(why: Refusal) -> RunAnswer
+    ensures { λ r. ⌜ runAnswer r ≡ turnedDown why ⌝ }
+{
+    RunAnswer {
+        outcome: Outcome::Refused(why),
+        places: [0u8; MAX_MACHINES],
+    }
+}
+
+// The place of each machine with this state.
+pub fn places_of(place: &[u8], state: usize, machines: usize) -> [u8; MAX_MACHINES]
+    requires { ⌜ (length (now place) ≡ 4096) × (state < 256) × (machines ≤ 16) ⌝ }
+    ensures { λ r. ⌜ Standing (λ k. entry (now (place .entry)) (k * 256 + state)) machines r ⌝ }
+{
+    let mut places = [0u8; MAX_MACHINES];
+    let mut m = 0;
+    while m < machines {
+        places[m] = place[m * MAX_STATES + state];
+        m += 1;
+    }
+    places
+}
+
+// An event on the machines together: the lowest machine that blocks it, or their count, and where they stand then.
+pub struct Stepped {
+    pub blocker: usize,
+    pub places: [u8; MAX_MACHINES],
+}
+
+// Event e from these places: one pass over the machines' moves.
+pub fn step<'a>(
+    pre: &'a [u8],
+    post: &'a [u8],
+    machines: usize,
+    places: [u8; MAX_MACHINES],
+    e: usize,
+) -> Stepped
+    requires { ⌜ (machines ≤ 16) × (e < 64) × MoveRows (now pre) (now post) ⌝ }
+    ensures { λ r. ⌜ Steps (now (pre .entry)) (now (post .entry)) machines places e r ⌝ }
+{
+    let mut moved = places;
+    let mut left = machines;
+    while 0 < left {
+        let m = machines - left;
+        let at = m * MAX_EVENTS + e;
+        let from = pre[at];
+        if wide(from) < MAX_PLACES {
+            if places[m] != from {
+                return Stepped { blocker: m, places };
+            }
+            moved[m] = post[at];
+        }
+        left -= 1;
+    }
+    Stepped {
+        blocker: machines,
+        places: moved,
+    }
+}
+
+// 14: the lowest position of an event that is not declared; the length of the list if there is none.
+fn unknown_event(events: &[u8], declared: usize) -> usize
+    ensures { λ r. ⌜ r ≡ index (λ e. not (ltb e declared)) (now (events .entry)) ⌝ }
+{
+    let mut i = 0;
+    while i < events.len() {
+        if wide(events[i]) >= declared {
+            return i;
+        }
+        i += 1;
+    }
+    i
+}
+
+// The events one after another, as far as the first that a machine blocks.
+fn run_from<'a>(
+    pre: &'a [u8],
+    post: &'a [u8],
+    machines: usize,
+    start: [u8; MAX_MACHINES],
+    events: &'a [u8],
+) -> RunAnswer
+    requires { ⌜ (machines ≤ 16) × MoveRows (now pre) (now post) × ((i : ℕ) → i < length (now events) → entry (now events) i < 64) ⌝ }
+    ensures { λ r. ⌜ ((ts : TransitionSystem) (ms : Decomposition) (qs : List ℕ) → Runs ts ms (now (pre .entry)) (now (post .entry)) machines qs start → ((i : ℕ) → i < length (now (events .entry)) → entry (now (events .entry)) i < ts .events) → runAnswer r ≡ runsFrom ts ms qs (now (events .entry))) ⌝ }
+{
+    let mut places = start;
+    let mut ran = 0;
+    while ran < events.len() {
+        let next = step(pre, post, machines, places, wide(events[ran]));
+        let blocker = next.blocker;
+        if blocker < machines {
+            return RunAnswer {
+                outcome: Outcome::Blocked {
+                    ran,
+                    machine: blocker,
+                },
+                places,
+            };
+        }
+        places = next.places;
+        ran += 1;
+    }
+    RunAnswer {
+        outcome: Outcome::Whole,
+        places,
+    }
+}
+
+// The events are declared, or the lowest position of one that is not is refused; then they run.
+pub fn run_events<'a>(
+    pre: &'a [u8],
+    post: &'a [u8],
+    machines: usize,
+    declared: usize,
+    start: [u8; MAX_MACHINES],
+    events: &'a [u8],
+) -> RunAnswer
+    requires { ⌜ (machines ≤ 16) × (declared ≤ 64) × MoveRows (now pre) (now post) ⌝ }
+    ensures { λ r. ⌜ ((ts : TransitionSystem) (ms : Decomposition) (qs : List ℕ) → Runs ts ms (now (pre .entry)) (now (post .entry)) machines qs start → declared ≡ ts .events → runAnswer r ≡ runsEvents ts ms qs (now (events .entry))) ⌝ }
+{
+    let position = unknown_event(events, declared);
+    if position < events.len() {
+        return refused(Refusal::UnknownEvent { position });
+    }
+    run_from(pre, post, machines, start, events)
+}

@@ -1,0 +1,57 @@
+-- `splitter::thin` meets its contract: both answers are laws of `Thinning` at what the calls have said.
+use borrow.Author.Needs.{needs}
+use denote.Ref.{now}
+use Rattle.checker.proofs.Verdicts.{lets-pass}
+use Rattle.splitter.specs.Stages.{Judged}
+use Rattle.splitter.proofs.Stages.{fresh}
+use Rattle.splitter.proofs.Thinning.{thin-refused, kept}
+use Rattle.splitter.proofs.thin.Statement.{statement}
+use Rattle.splitter.proofs.thin.Tie as tie
+
+-- past 12
+past : (c : tie.After-enum-told) → Judged (now (c .before .before .before .before .before .before .before .before .before .before .before .before .args .text)) (c .before .before .before .before .before .before .read-as-far-as-12 .result .tables) (c .before .before .before .before .before .before .read-as-far-as-12 .last .1 .0) (c .before .before .before .before .before .before .read-as-far-as-12 .last .1 .1 .0) (c .before .before .before .before .before .before .read-as-far-as-12 .last .1 .1 .1 .1 .0) (c .before .before .before .before .before .before .read-as-far-as-12 .last .1 .1 .1 .0)
+past c = c .before .before .before .before .before .before .read-as-far-as-12 .ensures .judged (lets-pass (c .enum-told .given .1))
+
+slice-aggregate-read-as-far-as-12 : tie.Need-slice-aggregate-read-as-far-as-12
+slice-aggregate-read-as-far-as-12 c = search needs
+
+slice-aggregate-read-as-far-as-12-2 : tie.Need-slice-aggregate-read-as-far-as-12-2
+slice-aggregate-read-as-far-as-12-2 c = search needs
+
+slice-aggregate-read-as-far-as-12-3 : tie.Need-slice-aggregate-read-as-far-as-12-3
+slice-aggregate-read-as-far-as-12-3 c = search needs
+
+slice-aggregate-read-as-far-as-12-4 : tie.Need-slice-aggregate-read-as-far-as-12-4
+slice-aggregate-read-as-far-as-12-4 c = search needs
+
+read-as-far-as-12-requires : tie.Need-read-as-far-as-12-requires
+read-as-far-as-12-requires c κs = fresh
+
+enum-known-verdict : tie.Need-enum-known-verdict
+enum-known-verdict c = search needs
+
+returns : tie.Need-returns
+returns c = thin-refused _ (c .before .before .before .before .before .before .before .read-as-far-as-12 .ensures .verdict) (c .before .verdict .given .1)
+
+enum-told : tie.Need-enum-told
+enum-told c = search needs
+
+slice-aggregate-remove-redundant : tie.Need-slice-aggregate-remove-redundant
+slice-aggregate-remove-redundant c = search needs
+
+slice-aggregate-remove-redundant-2 : tie.Need-slice-aggregate-remove-redundant-2
+slice-aggregate-remove-redundant-2 c = search needs
+
+slice-aggregate-remove-redundant-3 : tie.Need-slice-aggregate-remove-redundant-3
+slice-aggregate-remove-redundant-3 c = search needs
+
+remove-redundant-requires : tie.Need-remove-redundant-requires
+remove-redundant-requires c κs =
+    let j = past (c .before .before .before .before) in
+    (j .held .bounds .machines, j .held .bounds .events, j .cover .excitations .size, j .cover .size, j .cover .moves .rows .pre-size)
+
+returns-2 : tie.Need-returns-2
+returns-2 c = kept (past (c .before .before .before .before .before)) _ (c .remove-redundant .ensures)
+
+pub thin-spec : {M : Type 1} → statement M
+thin-spec = tie.close (tie.spec slice-aggregate-read-as-far-as-12 slice-aggregate-read-as-far-as-12-2 slice-aggregate-read-as-far-as-12-3 slice-aggregate-read-as-far-as-12-4 read-as-far-as-12-requires enum-known-verdict returns enum-told slice-aggregate-remove-redundant slice-aggregate-remove-redundant-2 slice-aggregate-remove-redundant-3 remove-redundant-requires returns-2)
