@@ -1,15 +1,10 @@
 // Refusals 4 to 12 of a text's rows, in the fixed order.
-ghost use mathlib.Core.Path.{_≡_};
 ghost use mathlib.Core.List.{[]};
-ghost use mathlib.Core.Option.{none};
-ghost use Rattle.model.specs.Machine.{Decomposition};
-ghost use Rattle.reader.specs.Tables.{verdictRefusal};
-ghost use Rattle.reader.specs.Told.{systemOf, MachinesTold};
 ghost use Rattle.reader.specs.Bounded.{Bounded};
 ghost use Rattle.transition_system.specs.Sets.{Excitations};
 ghost use Rattle.regions.specs.Moves.{MoveRows};
-ghost use Rattle.closure.specs.Covers.{PlaceSets, CoverTold};
-ghost use Rattle.checker.specs.Order.{refusalTo12};
+ghost use Rattle.closure.specs.Covers.{PlaceSets};
+ghost use Rattle.checker.specs.Order.{CheckedTo12};
 use closure::check_cover;
 use reader::Tables;
 use reader::Verdict;
@@ -25,8 +20,7 @@ pub fn check_as_far_as_12(
     sets: &mut [u64],
 ) -> Verdict
     requires { ⌜ Bounded p × MoveRows (now pre) (now post) × Excitations [] (now excited) × PlaceSets (p .place) (p .states) 0 (now sets) ⌝ }
-    ensures { λ r. ⌜ ((ms : Decomposition) → MachinesTold (systemOf p) p ms → verdictRefusal r ≡ refusalTo12 (systemOf p) ms) ⌝ }
-    ensures { λ r. ⌜ ((ms : Decomposition) → MachinesTold (systemOf p) p ms → verdictRefusal r ≡ none → CoverTold (systemOf p) ms (now (pre .exit)) (now (post .exit)) (now (sets .exit)) (now (excited .exit))) ⌝ }
+    ensures { λ r. ⌜ CheckedTo12 p (now (pre .exit)) (now (post .exit)) (now (sets .exit)) (now (excited .exit)) r ⌝ }
 {
     let system = check_transition_system(p, excited);
     if let Verdict::Refused(why) = system {

@@ -3,7 +3,7 @@ use Prim.Native.Nat.{ℕ, zero, suc, _+_, _*_, _<_, _≤_}
 use native.Mathlib.Omega.{arith}
 use mathlib.Core.Path.{_≡_, refl, ap, sym, _∙_}
 use mathlib.Core.Logic.{_⊎_, inl, inr}
-use mathlib.Core.Bool.{Bool, true, false, not, cond, _&&_, _||_, and-true, and-false, and-assoc, false≢true}
+use mathlib.Core.Bool.{Bool, true, false, not, cond, _&&_, _||_, and-true, and-false, false≢true}
 use mathlib.Core.List.{List, [], _∷_, _++_}
 use mathlib.Core.Option.{none, some, Option·some-ne-none, orElse}
 use borrow.Author.Tests.{lt-ltb, le-ltb, ltb-true}
@@ -15,8 +15,8 @@ use Rattle.model.specs.Refusal.{refuse}
 use Rattle.model.specs.TransitionSystem.{TransitionSystem}
 use Rattle.model.specs.Machine.{Machine, Decomposition, placeOf, inAlphabet, effective, inPre, ready, common, openEvent, ineffectiveEvent, machinesRefusal, closureRefusal, coverRefusal}
 use Rattle.model.proofs.Laws.{order}
-use Rattle.model.proofs.Positions.{at-below, below-at, at-mem, at-value}
-use Rattle.model.proofs.Passed.{machines-good}
+use Rattle.model.proofs.ListLaws.{every-append}
+use Rattle.model.proofs.Positions.{at-below, below-at, at-value}
 use Rattle.reader.specs.declared.Tables.{Tables}
 use Rattle.reader.specs.declared.Verdict.{Verdict}
 use Rattle.reader.specs.Tables.{verdictRefusal}
@@ -24,7 +24,7 @@ use Rattle.reader.specs.Told.{entry, systemOf, below, MachinesTold}
 use Rattle.reader.specs.Bounded.{Bounded}
 use Rattle.reader.proofs.Searches.{below-in, below-out, lowest-same}
 use Rattle.reader.proofs.Fronts.{exists-snoc}
-use Rattle.reader.proofs.Telling.{placed-at}
+use Rattle.reader.proofs.Telling.{told-place}
 use Rattle.transition_system.specs.Sets.{Excitations}
 use Rattle.regions.specs.Moves.{moveAt, MovesTold}
 use Rattle.closure.specs.Covers.{PlaceSets, onMachine, onSome, meets, commonTo, openIn, openRefusal, CoverTold, Judges}
@@ -32,8 +32,7 @@ use Rattle.closure.proofs.Selection.{effective-each, closure-same}
 
 every-snoc : {A : Type 0} (f : A → Bool) (l : List A) (x : A) → every f (l ++ (x ∷ [])) ≡ (every f l && f x)
 unfolding every
-every-snoc f [] x = and-true (f x)
-every-snoc f (y ∷ l) x = rw (every-snoc f l x, and-assoc)
+every-snoc f l x = every-append f l (x ∷ []) ∙ ap (λ (b : Bool). every f l && b) (and-true (f x))
 
 isSome-cond : {A : Type 0} (b : Bool) (a : A) → isSome (cond b (some a) none) ≡ b
 unfolding isSome
@@ -54,11 +53,11 @@ module _ {ts : TransitionSystem} {ms : Decomposition} {pre post : List ℕ} (mov
       rw (on-first e n l (omega arith), on-machine e n (w .0) l (w .1), take-suc ms n (w .0), at-value ms n (w .0) (w .0) (w .1))
       (sym (exists-snoc (inAlphabet ts e) (take n ms) (w .0)))
 
-  pub on-all : (e : ℕ) → e < ts .events → onSome pre e (length ms) ≡ effective ts ms e
+  on-all : (e : ℕ) → e < ts .events → onSome pre e (length ms) ≡ effective ts ms e
   unfolding effective
   on-all e l = on-first e (length ms) l (omega arith) ∙ ap (exists (inAlphabet ts e)) (take-length ms)
 
-  pub ineffective-same : lowest (λ (e : ℕ). not (onSome pre e (length ms))) (ts .events) ≡ ineffectiveEvent ts ms
+  ineffective-same : lowest (λ (e : ℕ). not (onSome pre e (length ms))) (ts .events) ≡ ineffectiveEvent ts ms
   unfolding ineffectiveEvent
   ineffective-same = lowest-same _ _ (ts .events) (λ e l. ap not (on-all e l))
 
@@ -82,7 +81,7 @@ module _ {ts : TransitionSystem} {ms : Decomposition} {pre post sets excitations
       rw (common-first e i n l b (omega arith), machine-ready e n i (w .0) l b (w .1), take-suc ms n (w .0), at-value ms n (w .0) (w .0) (w .1))
       (sym (every-snoc (ready ts e i) (take n ms) (w .0)))
 
-  pub common-all : (e i : ℕ) → e < ts .events → i < ts .states → commonTo sets pre e (length ms) i ≡ common ts ms e i
+  common-all : (e i : ℕ) → e < ts .events → i < ts .states → commonTo sets pre e (length ms) i ≡ common ts ms e i
   unfolding common
   common-all e i l b = common-first e i (length ms) l b (omega arith) ∙ ap (every (ready ts e i)) (take-length ms)
 
@@ -114,11 +113,6 @@ module _ {ts : TransitionSystem} {ms : Decomposition} {pre post sets excitations
 module _ (p : Tables) (bounds : Bounded p) (ms : Decomposition) (pre post : List ℕ) (machines : MachinesTold (systemOf p) p ms)
     (passed : machinesRefusal (systemOf p) 0 ms ≡ none) (moves : MovesTold (systemOf p) ms pre post) (event : ℕ)
     (answer : below (p .events) event ≡ lowest (λ (e : ℕ). not (onSome pre e (p .machines))) (p .events)) (sets excitations : List ℕ) where
-  places : (k i : ℕ) (m : Machine) → At ms k m → i < systemOf p .states → entry (p .place) (k * 256 + i) ≡ placeOf m i
-  unfolding systemOf
-  places k i m a l =
-      placed-at (machines .machine k m a) i (omega (arith, bounds .states)) (machines-good (systemOf p) 0 ms passed m (at-mem ms k m a) .base .placed i l)
-
   eleven : below (p .events) event ≡ ineffectiveEvent (systemOf p) ms
   unfolding systemOf
   eleven = (rw (machines .counted) at answer) ∙ ineffective-same moves
@@ -147,7 +141,7 @@ module _ (p : Tables) (bounds : Bounded p) (ms : Decomposition) (pre post : List
     where
       at : (k q i : ℕ) (m : Machine) → At ms k m → (i < p .states) ⊎ (p .states ≤ i)
           → (ltb i (p .states) && eqb (entry (p .place) (k * 256 + i)) q) ≡ (ltb i (p .states) && eqb (placeOf m i) q)
-      at k q i m a (inl b) = rw (places k i m a b)
+      at k q i m a (inl b) = rw (told-place machines passed (bounds .states) k i m a b)
       at k q i m a (inr b) = rw (le-ltb i (p .states) b)
 
   pub cover-passed :

@@ -36,7 +36,7 @@ module _ (ts : TransitionSystem) (ds : Decomposition) (excitations : List ℕ) (
   lowestOpen e = lowest (λ i. inAll e i && not (memberAt excitations e i)) 256
 
   -- ---- 12
-  pub open-same : (e : ℕ) → e < ts .events → effective ts ds e ≡ true → lowestOpen e ≡ openState ts ds e
+  open-same : (e : ℕ) → e < ts .events → effective ts ds e ≡ true → lowestOpen e ≡ openState ts ds e
   unfolding openState excited
   open-same e l o =
       lowest-within _ _ (ts .states) 256 small (λ i b. rw (inAll-same e i l b, told .members e i (omega arith)))

@@ -9,11 +9,12 @@ use lib.ListN.{length}
 use Rattle.model.specs.Lists.{At, lowest}
 use Rattle.model.specs.Refusal.{Refusal, refuse}
 use Rattle.model.specs.TransitionSystem.{TransitionSystem}
-use Rattle.model.specs.Machine.{Machine, Decomposition, placeOf, coverRefusal}
+use Rattle.model.specs.Machine.{Machine, Decomposition, placeOf, machinesRefusal, coverRefusal}
 use Rattle.state_set.specs.Rows.{memberAt}
+use Rattle.reader.specs.declared.Tables.{Tables}
 use Rattle.reader.specs.declared.Verdict.{Verdict}
 use Rattle.reader.specs.Tables.{verdictRefusal}
-use Rattle.reader.specs.Told.{entry}
+use Rattle.reader.specs.Told.{entry, systemOf, MachinesTold}
 use Rattle.transition_system.specs.Sets.{Excitations}
 use Rattle.regions.specs.Moves.{MovesTold}
 
@@ -64,3 +65,8 @@ pub record CoverTold (ts : TransitionSystem) (ms : Decomposition) (pre post sets
 pub record Judges (ts : TransitionSystem) (ms : Decomposition) (pre post sets excited : List ℕ) (r : Verdict) : Type 0 where
   pub verdict : verdictRefusal r ≡ coverRefusal ts ms
   pub rows : verdictRefusal r ≡ none → CoverTold ts ms pre post sets excited
+
+-- the verdict is that of 11 and 12 for any machines that the tables tell and that pass 8 to 10, if the rows tell their moves and the excitation sets
+pub record CoverJudged (p : Tables) (pre sets excited : List ℕ) (r : Verdict) : Type 0 where
+  pub judges : (ms : Decomposition) (post : List ℕ) → MachinesTold (systemOf p) p ms → machinesRefusal (systemOf p) 0 ms ≡ none
+      → MovesTold (systemOf p) ms pre post → Excitations (systemOf p .transitions) excited → Judges (systemOf p) ms pre post sets excited r

@@ -1,19 +1,14 @@
 // Refusals 11 and 12: the machines together.
 ghost use mathlib.Core.Path.{_≡_};
 ghost use mathlib.Core.Bool.{not, _&&_};
-ghost use mathlib.Core.List.{List};
-ghost use mathlib.Core.Option.{none};
 ghost use Prim.Native.Nat.{ℕ, suc, _<_, _≤_};
 ghost use lib.ListN.{length};
 ghost use Rattle.model.specs.Lists.{lowest};
-ghost use Rattle.model.specs.Machine.{Decomposition, machinesRefusal};
 ghost use Rattle.state_set.specs.Member.{member, stateFound};
 ghost use Rattle.reader.specs.Tables.{verdictRefusal};
-ghost use Rattle.reader.specs.Told.{systemOf, below, MachinesTold};
+ghost use Rattle.reader.specs.Told.{below};
 ghost use Rattle.reader.specs.Bounded.{Bounded};
-ghost use Rattle.transition_system.specs.Sets.{Excitations};
-ghost use Rattle.regions.specs.Moves.{MovesTold};
-ghost use Rattle.closure.specs.Covers.{PlaceSets, onMachine, onSome, meets, commonTo, openIn, openRefusal, Judges};
+ghost use Rattle.closure.specs.Covers.{PlaceSets, onMachine, onSome, meets, commonTo, openIn, openRefusal, CoverJudged};
 use model::MAX_EVENTS;
 use model::MAX_PLACES;
 use model::MAX_STATES;
@@ -162,7 +157,7 @@ fn check_closed(
 // 11, then 12. Passed, the rows have what 11 and 12 ask for, the places as sets among it.
 pub fn check_cover(p: Tables, excited: &[u64], pre: &[u8], sets: &mut [u64]) -> Verdict
     requires { ⌜ Bounded p × (length (now excited) ≡ 256) × (length (now pre) ≡ 1024) × PlaceSets (p .place) (p .states) 0 (now sets) ⌝ }
-    ensures { λ r. ⌜ ((ms : Decomposition) (post : List ℕ) → MachinesTold (systemOf p) p ms → machinesRefusal (systemOf p) 0 ms ≡ none → MovesTold (systemOf p) ms (now (pre .entry)) post → Excitations (systemOf p .transitions) (now (excited .entry)) → Judges (systemOf p) ms (now (pre .entry)) post (now (sets .exit)) (now (excited .entry)) r) ⌝ }
+    ensures { λ r. ⌜ CoverJudged p (now (pre .entry)) (now (sets .exit)) (now (excited .entry)) r ⌝ }
 {
     let machines = p.machines;
     let events = p.events;

@@ -2,42 +2,27 @@
 use Prim.Native.Nat.{ℕ, zero, suc, _+_, _*_, _<_, _≤_}
 use native.Mathlib.Omega.{arith}
 use mathlib.Core.Path.{_≡_, refl, sym, ap, _∙_}
-use mathlib.Core.Bool.{Bool, true, false, not, _&&_, _||_, and-assoc, and-comm, and-false, or-assoc, or-comm, false≢true}
+use mathlib.Core.Bool.{Bool, true, false, not, _&&_, _||_, and-comm, and-false, or-comm, false≢true}
 use mathlib.Core.List.{List, [], _∷_, _++_}
 use mathlib.Core.Option.{Option, none, some, Option·some-ne-none}
 use borrow.Author.Tests.{lt-ltb}
-use lib.Dec.{T, ltb}
+use lib.Dec.{T}
 use lib.ListN.{length, getD, take, drop, replicate, length-append, getD-replicate}
 use lib.Seq.{length-take-le}
-use Rattle.model.specs.Lists.{At, exists, every, isSome, isEmpty, lowest}
+use Rattle.model.specs.Lists.{At, exists, every, isSome, lowest}
 use Rattle.model.specs.Refusal.{Refusal}
 use Rattle.model.specs.TransitionSystem.{TransitionSystem}
 use Rattle.model.specs.Machine.{Machine, Decomposition, inAlphabet, effective, ready, common, coverRefusal, select, suffices}
 use Rattle.model.proofs.Laws.{T-true, and-l, and-r, isSome-none}
+use Rattle.model.proofs.ListLaws.{exists-append, every-append, not-empty}
 use Rattle.state_set.specs.Rows.{memberAt}
+use Rattle.state_set.proofs.Sets.{fullWord}
+use Rattle.state_set.proofs.Rows.{full-row}
 use Rattle.closure.specs.Covers.{onMachine, onSome, meets, CoverTold}
 use Rattle.closure.proofs.Selection.{covers-all, covers-each}
 use Rattle.closure.proofs.Cover.{on-machine, on-first, machine-ready, common-first, meets-past, common-past}
-use Rattle.irredundant.specs.Kept.{noneBelow, Below, Adds, coveredWithout}
-use Rattle.irredundant.proofs.Storing.{fullWord, full-row}
+use Rattle.irredundant.specs.Kept.{noneBelow, Below, Adds, coveredWithout, redundant}
 use Rattle.irredundant.proofs.Covered.{all-pass, each-passes}
-
--- ---- lists
-module _ {A : Type 0} (f : A → Bool) where
-  exists-append : (a b : List A) → exists f (a ++ b) ≡ (exists f a || exists f b)
-  unfolding exists
-  exists-append [] b = refl
-  exists-append (x ∷ a) b = rw (exists-append a b, or-assoc)
-
-  every-append : (a b : List A) → every f (a ++ b) ≡ (every f a && every f b)
-  unfolding every
-  every-append [] b = refl
-  every-append (x ∷ a) b = rw (every-append a b, and-assoc)
-
-not-empty : (ds : Decomposition) → ltb 0 (length ds) ≡ not (isEmpty ds)
-unfolding isEmpty
-not-empty [] = refl
-not-empty (m ∷ ds) = lt-ltb 0 (suc (length ds)) (omega arith)
 
 pub select-without : (k : ℕ) (marks : List Bool) (ms : Decomposition) → k < length ms
     → select (replicate k true ++ (false ∷ marks)) ms ≡ take k ms ++ select marks (drop (suc k) ms)
@@ -48,10 +33,10 @@ select-without (suc k) marks (m ∷ ms) l = ap (λ (ds : Decomposition). m ∷ d
 
 -- ---- the rows of kept machines
 -- which events are on the machines, and which states are common to their pre-places there
-pub record Tells (ts : TransitionSystem) (ds : Decomposition) (above : List ℕ) (held : List Bool) : Type 0 where
-  pub on : (e : ℕ) → e < ts .events → getD held e false ≡ effective ts ds e
+pub record Tells (ts : TransitionSystem) (ds : Decomposition) (above : List ℕ) (onAbove : List Bool) : Type 0 where
+  pub on : (e : ℕ) → e < ts .events → getD onAbove e false ≡ effective ts ds e
   pub all : (e i : ℕ) → e < ts .events → i < ts .states → memberAt above e i ≡ common ts ds e i
-  pub past : (e i : ℕ) → e < ts .events → ts .states ≤ i → getD held e false ≡ true → memberAt above e i ≡ false
+  pub past : (e i : ℕ) → e < ts .events → ts .states ≤ i → getD onAbove e false ≡ true → memberAt above e i ≡ false
 
 pub tells-none : (ts : TransitionSystem) → ts .states ≤ 256 → ts .events ≤ 64 → Tells ts [] (replicate 256 fullWord) (replicate 64 false)
 unfolding effective common exists every
@@ -66,20 +51,20 @@ tells-none ts small few =
     off e l = getD-replicate 64 e false false (omega arith)
 
 module _ {ts : TransitionSystem} {ms : Decomposition} {pre post sets excited : List ℕ} (told : CoverTold ts ms pre post sets excited) (k : ℕ)
-    {above : List ℕ} {held : List Bool} {ds : Decomposition} (rows : Tells ts ds above held) where
+    {above : List ℕ} {onAbove : List Bool} {ds : Decomposition} (rows : Tells ts ds above onAbove) where
   -- one machine more
-  pub tells-more : {above2 : List ℕ} {held2 : List Bool} (m : Machine) → At ms k m → Adds sets pre k (ts .events) above held above2 held2
-      → Tells ts (m ∷ ds) above2 held2
+  pub tells-more : {above2 : List ℕ} {onAbove2 : List Bool} (m : Machine) → At ms k m
+      → Adds sets pre k (ts .events) above onAbove above2 onAbove2 → Tells ts (m ∷ ds) above2 onAbove2
   unfolding effective common exists every
-  tells-more {above2} {held2} m a add =
+  tells-more {above2} {onAbove2} m a add =
       record {
         on = λ e l. add .on e l ∙ rw (rows .on e l, on-machine (told .moves) e k m l a) (or-comm (effective ts ds e) (inAlphabet ts e m));
         all = λ e i l b. add .common e i l ∙ rw (rows .all e i l b, machine-ready told e k i m l b a) (and-comm (common ts ds e i) (ready ts e i m));
-        past = λ e i l b h. add .common e i l ∙ outside e i l b (getD held e false) refl (sym (add .on e l) ∙ h);
+        past = λ e i l b h. add .common e i l ∙ outside e i l b (getD onAbove e false) refl (sym (add .on e l) ∙ h);
       }
     where
-      outside : (e i : ℕ) → e < ts .events → ts .states ≤ i → (t : Bool) → getD held e false ≡ t → (getD held e false || onMachine pre e k) ≡ true
-          → (memberAt above e i && meets sets pre e k i) ≡ false
+      outside : (e i : ℕ) → e < ts .events → ts .states ≤ i → (t : Bool) → getD onAbove e false ≡ t
+          → (getD onAbove e false || onMachine pre e k) ≡ true → (memberAt above e i && meets sets pre e k i) ≡ false
       outside e i l b true q h = rw (rows .past e i l b q)
       outside e i l b false q h =
           rw (meets-past told e k i m a b (sym (ap (λ (t : Bool). t || onMachine pre e k) q) ∙ h)) (and-false (memberAt above e i))
@@ -90,7 +75,7 @@ module _ {ts : TransitionSystem} {ms : Decomposition} {pre post sets excited : L
     beside = take k ms ++ ds
 
     abbrev onBeside : ℕ → Bool
-    onBeside e = getD held e false || onSome pre e k
+    onBeside e = getD onAbove e false || onSome pre e k
 
     abbrev inAll : ℕ → ℕ → Bool
     inAll e i = memberAt below (k * 64 + e) i && memberAt above e i
@@ -107,9 +92,9 @@ module _ {ts : TransitionSystem} {ms : Decomposition} {pre post sets excited : L
         rw (before .common k e i low l, common-first told e i k l b (omega arith), rows .all e i l b, every-append (ready ts e i) (take k ms) ds)
 
     inAll-past : (e i : ℕ) → e < ts .events → ts .states ≤ i → onBeside e ≡ true → inAll e i ≡ false
-    inAll-past e i l b o = go (getD held e false) refl
+    inAll-past e i l b o = go (getD onAbove e false) refl
       where
-        go : (t : Bool) → getD held e false ≡ t → inAll e i ≡ false
+        go : (t : Bool) → getD onAbove e false ≡ t → inAll e i ≡ false
         go true q = rw (rows .past e i l b q) (and-false (memberAt below (k * 64 + e) i))
         go false q =
             rw (before .common k e i low l, common-past told e i k b (omega arith) (sym (ap (λ (t : Bool). t || onSome pre e k) q) ∙ o))
@@ -118,7 +103,7 @@ module _ {ts : TransitionSystem} {ms : Decomposition} {pre post sets excited : L
     lowestOpen e = lowest (λ i. inAll e i && not (memberAt excited e i)) 256
 
     abbrev covered : ℕ → Bool
-    covered = coveredWithout pre below above held excited k
+    covered = coveredWithout pre below above onAbove excited k
 
     covered-of : (e : ℕ) → (onBeside e ≡ true) × (lowestOpen e ≡ none) → covered e ≡ true
     unfolding coveredWithout noneBelow isSome
@@ -154,6 +139,6 @@ module _ {ts : TransitionSystem} {ms : Decomposition} {pre post sets excited : L
         go (some r) q = some-open r q rest refl
 
     -- and they are not none, where they are counted
-    pub suffices-same : {others : ℕ} → others ≡ k + length ds → (ltb 0 others && noneBelow (λ e. not (covered e)) (ts .events)) ≡ suffices ts beside
+    pub suffices-same : {others : ℕ} → others ≡ k + length ds → redundant pre below above onAbove excited others k (ts .events) ≡ suffices ts beside
     unfolding suffices
     suffices-same v = rw (passes-same, sym (not-empty beside), length-append (take k ms) ds, length-take-le k ms (omega arith), v)

@@ -19,22 +19,23 @@ use Rattle.closure.specs.Covers.{onSome}
 use Rattle.irredundant.specs.Kept.{noneBelow, coveredWithout}
 
 -- ---- one event
--- event e is held, or on a machine before m
-pub record On (pre : List ℕ) (held : List Bool) (m e : ℕ) : Type 0 where
-  pub on : (getD held e false || onSome pre e m) ≡ true
+-- event e is on a kept machine after m, or on a machine before it
+pub record On (pre : List ℕ) (onAbove : List Bool) (m e : ℕ) : Type 0 where
+  pub on : (getD onAbove e false || onSome pre e m) ≡ true
 
-module _ {pre : List ℕ} {held : List Bool} {m e : ℕ} where
-  pub is-held : not (getD held e false) ≡ false → On pre held m e
-  is-held q = record { on = rw (not-false (getD held e false) q) }
+module _ {pre : List ℕ} {onAbove : List Bool} {m e : ℕ} where
+  pub is-on-above : not (getD onAbove e false) ≡ false → On pre onAbove m e
+  is-on-above q = record { on = rw (not-false (getD onAbove e false) q) }
 
-  pub is-before : {r : Bool} → r ≡ onSome pre e m → not r ≡ false → On pre held m e
-  is-before {r} v q = record { on = rw (sym v, not-false r q) (or-true (getD held e false)) }
+  pub is-before : {r : Bool} → r ≡ onSome pre e m → not r ≡ false → On pre onAbove m e
+  is-before {r} v q = record { on = rw (sym v, not-false r q) (or-true (getD onAbove e false)) }
 
-module _ (pre below above : List ℕ) (held : List Bool) (excited : List ℕ) (m e : ℕ) where
+module _ (pre below above : List ℕ) (onAbove : List Bool) (excited : List ℕ) (m e : ℕ) where
   -- or neither
-  pub off-all : {r : Bool} → not (getD held e false) ≡ true → r ≡ onSome pre e m → not r ≡ true → false ≡ coveredWithout pre below above held excited m e
+  pub off-all : {r : Bool} → not (getD onAbove e false) ≡ true → r ≡ onSome pre e m → not r ≡ true
+      → false ≡ coveredWithout pre below above onAbove excited m e
   unfolding coveredWithout
-  off-all {r} h v q = rw (not-true (getD held e false) h, sym v, not-true r q)
+  off-all {r} h v q = rw (not-true (getD onAbove e false) h, sym v, not-true r q)
 
   abbrev beyond : ℕ → Bool
   beyond i = (memberAt below (m * 64 + e) i && memberAt above e i) && not (memberAt excited e i)
@@ -47,13 +48,13 @@ module _ (pre below above : List ℕ) (held : List Bool) (excited : List ℕ) (m
     unfolding memberAt
     lowest-left = vo ∙ lowest-same _ _ 256 (λ i _. vy i ∙ rw (vc i, va, vb, vx))
 
-    pub none-left : o ≡ Nothing → On pre held m e → true ≡ coveredWithout pre below above held excited m e
+    pub none-left : o ≡ Nothing → On pre onAbove m e → true ≡ coveredWithout pre below above onAbove excited m e
     unfolding coveredWithout noneBelow isSome stateFound
     none-left q h = rw (h .on, sym lowest-left, q)
 
-    pub some-left : {s : ℕ} → o ≡ State s → false ≡ coveredWithout pre below above held excited m e
+    pub some-left : {s : ℕ} → o ≡ State s → false ≡ coveredWithout pre below above onAbove excited m e
     unfolding coveredWithout noneBelow isSome stateFound
-    some-left q = rw (sym lowest-left, q) (sym (and-false (getD held e false || onSome pre e m)))
+    some-left q = rw (sym lowest-left, q) (sym (and-false (getD onAbove e false || onSome pre e m)))
 
 -- ---- every event
 pub no-others : {others : ℕ} → others < 1 → ltb 0 others ≡ false

@@ -3,10 +3,9 @@ use Prim.Native.Nat.{ℕ, suc, _+_, _-_, _*_, _^_, _<_, _≤_}
 use native.Mathlib.Nat.{pow-suc}
 use native.Mathlib.Omega.{arith}
 use mathlib.Core.Path.{_≡_, refl, sym, ap, _∙_}
-use mathlib.Core.Bool.{Bool, true, false, not, _&&_}
+use mathlib.Core.Bool.{Bool, true, false, not}
 use mathlib.Core.List.{List, [], _∷_}
 use mir.Val.{boolByte}
-use lib.Dec.{ltb}
 use lib.ListN.{length, getD, drop, replicate, length-drop}
 use lib.Pow.{pow-pos, pow-mono}
 use lib.Seq.{drop-cons, drop-length}
@@ -15,28 +14,30 @@ use Rattle.model.specs.TransitionSystem.{TransitionSystem}
 use Rattle.model.specs.Machine.{Machine, Decomposition, keptMarks, select, suffices}
 use Rattle.model.proofs.Kept.{kept-length, kept-examined, select-count}
 use Rattle.model.proofs.Positions.{below-at, at-value}
+use Rattle.state_set.proofs.Sets.{fullWord}
 use Rattle.closure.specs.Covers.{CoverTold}
-use Rattle.irredundant.specs.Kept.{setNumber, Keeps, noneBelow, Below, Adds, coveredWithout}
-use Rattle.irredundant.proofs.Storing.{fullWord}
+use Rattle.irredundant.specs.Kept.{setNumber, Thins, Below, Adds, redundant}
 use Rattle.irredundant.proofs.Beside.{Tells, tells-none, tells-more, select-without, suffices-same}
 
 -- the rows once a machine is examined: those with it if it stays, or those that there were
-pub data Next (sets pre : List ℕ) (m events : ℕ) (stays : Bool) (above : List ℕ) (held : List Bool) (above2 : List ℕ) (held2 : List Bool) : Type 0 where
-  added : (row : List ℕ) (marks : List Bool) → stays ≡ true → Adds sets pre m events above held row marks → above2 ≡ row → held2 ≡ marks
-      → Next sets pre m events stays above held above2 held2
-  same : stays ≡ false → above2 ≡ above → held2 ≡ held → Next sets pre m events stays above held above2 held2
+pub data Next (sets pre : List ℕ) (m events : ℕ) (stays : Bool) (above : List ℕ) (onAbove : List Bool) (above2 : List ℕ)
+    (onAbove2 : List Bool) : Type 0 where
+  added : (row : List ℕ) (marks : List Bool) → stays ≡ true → Adds sets pre m events above onAbove row marks → above2 ≡ row → onAbove2 ≡ marks
+      → Next sets pre m events stays above onAbove above2 onAbove2
+  same : stays ≡ false → above2 ≡ above → onAbove2 ≡ onAbove → Next sets pre m events stays above onAbove above2 onAbove2
 
-next-sizes : {sets pre : List ℕ} {m events : ℕ} {stays : Bool} {above above2 : List ℕ} {held held2 : List Bool}
-    → Next sets pre m events stays above held above2 held2 → (length above2 ≡ length above) × (length held2 ≡ length held)
-next-sizes (added row marks t g p q) = (rw p (g .above-size), rw q (g .held-size))
+next-sizes : {sets pre : List ℕ} {m events : ℕ} {stays : Bool} {above above2 : List ℕ} {onAbove onAbove2 : List Bool}
+    → Next sets pre m events stays above onAbove above2 onAbove2
+    → (length above2 ≡ length above) × (length onAbove2 ≡ length onAbove)
+next-sizes (added row marks t g p q) = (rw p (g .above-size), rw q (g .on-size))
 next-sizes (same t p q) = (ap length p, ap length q)
 
 -- ---- what the marks say
 -- the marks of the machines from `left` on, and the rows of those that are kept
-pub record Examined (ts : TransitionSystem) (ms : Decomposition) (above : List ℕ) (held : List Bool) (kept size left : ℕ) : Type 0 where
+pub record Examined (ts : TransitionSystem) (ms : Decomposition) (above : List ℕ) (onAbove : List Bool) (kept size left : ℕ) : Type 0 where
   pub number : kept ≡ setNumber (drop left (keptMarks ts ms))
   pub counted : size ≡ count (λ b. b) (drop left (keptMarks ts ms))
-  pub rows : Tells ts (select (drop left (keptMarks ts ms)) (drop left ms)) above held
+  pub rows : Tells ts (select (drop left (keptMarks ts ms)) (drop left ms)) above onAbove
 
 -- one mark more
 number-more : (b : Bool) (marks : List Bool) {n : ℕ} → n ≡ setNumber marks → n * 2 + boolByte b ≡ setNumber (b ∷ marks)
@@ -58,9 +59,9 @@ module _ {ts : TransitionSystem} {ms : Decomposition} {pre post sets excited : L
       no-marks = ap (λ (n : ℕ). drop n (keptMarks ts ms)) (sym (kept-length ts ms)) ∙ drop-length (keptMarks ts ms)
 
   -- machine k is the next
-  module _ (k : ℕ) (low : k < length ms) {below above : List ℕ} {held : List Bool} {kept size : ℕ} {r : Bool}
-      (before : Below sets pre (length ms) (ts .events) below) (x : Examined ts ms above held kept size (suc k))
-      (v : r ≡ (ltb 0 (k + size) && noneBelow (λ e. not (coveredWithout pre below above held excited k e)) (ts .events))) where
+  module _ (k : ℕ) (low : k < length ms) {below above : List ℕ} {onAbove : List Bool} {kept size : ℕ} {r : Bool}
+      (before : Below sets pre (length ms) (ts .events) below) (x : Examined ts ms above onAbove kept size (suc k))
+      (v : r ≡ redundant pre below above onAbove excited (k + size) k (ts .events)) where
     abbrev marks : List Bool
     marks = drop (suc k) (keptMarks ts ms)
 
@@ -84,14 +85,14 @@ module _ {ts : TransitionSystem} {ms : Decomposition} {pre post sets excited : L
     machines-more : (m : Machine) → At ms k m → drop k ms ≡ m ∷ drop (suc k) ms
     machines-more m a = drop-cons ms k m low ∙ ap (λ (n : Machine). n ∷ drop (suc k) ms) (at-value ms k m m a)
 
-    rows-more : {above2 : List ℕ} {held2 : List Bool} (b : Bool) → Next sets pre k (ts .events) b above held above2 held2 → (m : Machine) → At ms k m
-        → Tells ts (select (b ∷ marks) (m ∷ drop (suc k) ms)) above2 held2
+    rows-more : {above2 : List ℕ} {onAbove2 : List Bool} (b : Bool) → Next sets pre k (ts .events) b above onAbove above2 onAbove2
+        → (m : Machine) → At ms k m → Tells ts (select (b ∷ marks) (m ∷ drop (suc k) ms)) above2 onAbove2
     unfolding select
-    rows-more b (added row held3 t g p q) m a = rw (t, p, q) (tells-more told k (x .rows) m a g)
+    rows-more b (added row on t g p q) m a = rw (t, p, q) (tells-more told k (x .rows) m a g)
     rows-more b (same t p q) m a = rw (t, p, q) (x .rows)
 
-    examined-more : {above2 : List ℕ} {held2 : List Bool} → Next sets pre k (ts .events) (not r) above held above2 held2
-        → Examined ts ms above2 held2 (kept * 2 + boolByte (not r)) (size + boolByte (not r)) k
+    examined-more : {above2 : List ℕ} {onAbove2 : List Bool} → Next sets pre k (ts .events) (not r) above onAbove above2 onAbove2
+        → Examined ts ms above2 onAbove2 (kept * 2 + boolByte (not r)) (size + boolByte (not r)) k
     examined-more g =
         let w = below-at ms k low in
         record {
@@ -102,14 +103,14 @@ module _ {ts : TransitionSystem} {ms : Decomposition} {pre post sets excited : L
 
 -- ---- the loop
 -- it has come to machine `left`; what the rows say is said of any machines that they tell
-pub record Thinning (excited sets pre : List ℕ) (machines events : ℕ) (above : List ℕ) (held : List Bool) (kept size left : ℕ) : Type 0 where
+pub record Thinning (excited sets pre : List ℕ) (machines events : ℕ) (above : List ℕ) (onAbove : List Bool) (kept size left : ℕ) : Type 0 where
   pub most : left ≤ machines
   pub few : size + left ≤ machines
   pub low : kept < 2 ^ (machines - left)
   pub above-size : length above ≡ 256
-  pub held-size : length held ≡ 64
+  pub on-size : length onAbove ≡ 64
   pub marks : (ts : TransitionSystem) (ms : Decomposition) (post : List ℕ) → CoverTold ts ms pre post sets excited → machines ≡ length ms
-      → events ≡ ts .events → Examined ts ms above held kept size left
+      → events ≡ ts .events → Examined ts ms above onAbove kept size left
 
 pub byte-small : (b : Bool) → boolByte b ≤ 1
 byte-small true = omega arith
@@ -123,31 +124,31 @@ module _ {excited sets pre : List ℕ} {machines events : ℕ} where
         few = omega arith;
         low = pow-pos (machines - machines);
         above-size = refl;
-        held-size = refl;
+        on-size = refl;
         marks = λ ts ms post told a b. rw a (examined-none told);
       }
 
   -- one digit more has room in 16
-  pub thin-room : {above : List ℕ} {held : List Bool} {kept size left : ℕ} → Thinning excited sets pre machines events above held kept size left
-      → machines ≤ 16 → 0 < left → kept < 32768
+  pub thin-room : {above : List ℕ} {onAbove : List Bool} {kept size left : ℕ}
+      → Thinning excited sets pre machines events above onAbove kept size left → machines ≤ 16 → 0 < left → kept < 32768
   thin-room {left = left} t l h =
       let p : 2 ^ (machines - left) ≤ 2 ^ 15 = pow-mono {i = machines - left} {j = 15} (omega arith) in
       omega (arith, t .low, p)
 
   -- machine m is examined, and r says that it is redundant
   pub thin-more :
-      {below above above2 : List ℕ} {held held2 : List Bool} {kept size left m : ℕ} {r : Bool} → Below sets pre machines events below
-      → Thinning excited sets pre machines events above held kept size left → left ≡ suc m
-      → r ≡ (ltb 0 (m + size) && noneBelow (λ e. not (coveredWithout pre below above held excited m e)) events)
-      → Next sets pre m events (not r) above held above2 held2
-      → Thinning excited sets pre machines events above2 held2 (kept * 2 + boolByte (not r)) (size + boolByte (not r)) m
-  thin-more {below} {above} {above2} {held} {held2} {kept} {size} {left} {m} {r} before t q v g =
+      {below above above2 : List ℕ} {onAbove onAbove2 : List Bool} {kept size left m : ℕ} {r : Bool} → Below sets pre machines events below
+      → Thinning excited sets pre machines events above onAbove kept size left → left ≡ suc m
+      → r ≡ redundant pre below above onAbove excited (m + size) m events
+      → Next sets pre m events (not r) above onAbove above2 onAbove2
+      → Thinning excited sets pre machines events above2 onAbove2 (kept * 2 + boolByte (not r)) (size + boolByte (not r)) m
+  thin-more {below} {above} {above2} {onAbove} {onAbove2} {kept} {size} {left} {m} {r} before t q v g =
       record {
         most = omega (arith, t .most);
         few = omega (arith, t .few, byte-small (not r));
         low = rw (further, pow-suc 2 (machines - left)) (omega (arith, t .low, byte-small (not r)));
         above-size = next-sizes g .0 ∙ t .above-size;
-        held-size = next-sizes g .1 ∙ t .held-size;
+        on-size = next-sizes g .1 ∙ t .on-size;
         marks = λ ts ms post told b d.
             examined-more told m (omega (arith, t .most)) (rw (b, d) at before) (rw q at (t .marks ts ms post told b d)) (rw d at v) (rw d at g);
       }
@@ -155,10 +156,13 @@ module _ {excited sets pre : List ℕ} {machines events : ℕ} where
       further : machines - m ≡ suc (machines - left)
       further = omega (arith, t .most)
 
-  pub thin-end : {above : List ℕ} {held : List Bool} {kept size left : ℕ} → Thinning excited sets pre machines events above held kept size left → left ≤ 0
-      → (ts : TransitionSystem) (ms : Decomposition) (post : List ℕ) → CoverTold ts ms pre post sets excited → machines ≡ length ms → events ≡ ts .events
-      → Keeps ts ms record { machines = kept; size = size }
-  thin-end {left = left} t l ts ms post told a b =
+  pub thin-end : {above : List ℕ} {onAbove : List Bool} {kept size left : ℕ}
+      → Thinning excited sets pre machines events above onAbove kept size left → left ≤ 0
+      → Thins pre sets excited machines events record { machines = kept; size = size }
+  thin-end {left = left} t l =
       let q : left ≡ 0 = omega arith in
-      let x = t .marks ts ms post told a b in
-      record { machines = x .number ∙ rw q; size = x .counted ∙ rw q }
+      record {
+        keeps = λ ts ms post told a b.
+            let x = t .marks ts ms post told a b in
+            record { machines = x .number ∙ rw q; size = x .counted ∙ rw q };
+      }

@@ -10,9 +10,10 @@ use Rattle.model.proofs.Laws.{below-suc}
 use Rattle.state_set.specs.declared.StateSet.{StateSet}
 use Rattle.state_set.specs.Member.{member}
 use Rattle.state_set.specs.Rows.{setAt, memberAt, Stored}
+use Rattle.state_set.proofs.Sets.{fullWord}
+use Rattle.state_set.proofs.Rows.{stored-here, stored-else, full-row}
 use Rattle.closure.specs.Covers.{meets, commonTo}
 use Rattle.irredundant.specs.Kept.{Extends, Below}
-use Rattle.irredundant.proofs.Storing.{stored-here, stored-else, fullWord, full-row}
 
 -- ---- one machine, event by event
 -- the sets of machine m + 1 are there for the first e events, and those before are as they were

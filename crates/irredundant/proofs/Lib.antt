@@ -1,7 +1,5 @@
 -- The laws behind Thin. `SetNumber` is for the crates above too: a number stands for one set of machines.
 
--- a set stored in a row, by its members; a row of full sets
-pub mod Storing
 -- the states common to pre-places on the machines before each machine
 pub mod Extending
 -- a machine is one of those that are kept

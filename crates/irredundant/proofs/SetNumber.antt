@@ -17,22 +17,20 @@ use Rattle.irredundant.specs.Kept.{setNumber}
 abbrev digit : Bool → ℕ
 digit b = cond b 1 0
 
-digit-small : (b : Bool) → digit b < 2
-digit-small true = omega arith
-digit-small false = omega arith
-
 -- the lowest digit, and the number that the others make
 low-digit : (b : Bool) (n : ℕ) → eqb ((digit b + 2 * n) % 2) 1 ≡ b
 low-digit true n = let q : (1 + 2 * n) % 2 ≡ 1 = omega arith in rw q
 low-digit false n = let q : (0 + 2 * n) % 2 ≡ 0 = omega arith in rw q
 
 high-digits : (b : Bool) (n : ℕ) → (digit b + 2 * n) / 2 ≡ n
-high-digits b n = omega (arith, digit-small b)
+high-digits true n = omega arith
+high-digits false n = omega arith
 
 pub set-number-bound : (marks : List Bool) → setNumber marks < 2 ^ length marks
 unfolding setNumber
 set-number-bound [] = pow-pos 0
-set-number-bound (b ∷ marks) = rw (pow-suc 2 (length marks)) (omega (arith, digit-small b, set-number-bound marks))
+set-number-bound (true ∷ marks) = rw (pow-suc 2 (length marks)) (omega (arith, set-number-bound marks))
+set-number-bound (false ∷ marks) = rw (pow-suc 2 (length marks)) (omega (arith, set-number-bound marks))
 
 pub set-number-bit : (marks : List Bool) (i : ℕ) → bit (setNumber marks) i ≡ getD marks i false
 unfolding setNumber

@@ -3,12 +3,13 @@ use Prim.Native.Nat.{ℕ, suc, _+_, _*_, _<_}
 use mathlib.Core.Path.{_≡_}
 use mathlib.Core.Bool.{Bool, false, not, cond, _&&_, _||_}
 use mathlib.Core.List.{List, [], _∷_}
+use lib.Dec.{ltb}
 use lib.ListN.{length, getD}
 use Rattle.model.specs.Lists.{count, isSome, lowest}
 use Rattle.model.specs.TransitionSystem.{TransitionSystem}
 use Rattle.model.specs.Machine.{Decomposition, keptMarks}
 use Rattle.state_set.specs.Rows.{memberAt}
-use Rattle.closure.specs.Covers.{onMachine, onSome, meets, commonTo}
+use Rattle.closure.specs.Covers.{onMachine, onSome, meets, commonTo, CoverTold}
 use Rattle.irredundant.specs.declared.Kept.{Kept}
 
 -- the set of machines that marks give as a number: bit i is machine i
@@ -21,6 +22,11 @@ pub record Keeps (ts : TransitionSystem) (ms : Decomposition) (r : Kept) : Type 
   pub machines : r .machines ≡ setNumber (keptMarks ts ms)
   pub size : r .size ≡ count (λ b. b) (keptMarks ts ms)
 
+-- r is what Thin keeps of any machines that the rows tell
+pub record Thins (pre sets excited : List ℕ) (machines events : ℕ) (r : Kept) : Type 0 where
+  pub keeps : (ts : TransitionSystem) (ms : Decomposition) (post : List ℕ) → CoverTold ts ms pre post sets excited → machines ≡ length ms
+      → events ≡ ts .events → Keeps ts ms r
+
 -- no number below n passes the test
 unfoldable pub noneBelow : (ℕ → Bool) → ℕ → Bool
 noneBelow f n = not (isSome (lowest f n))
@@ -29,6 +35,18 @@ pub record Sizes (sets pre below : List ℕ) : Type 0 where
   pub sets-size : length sets ≡ 4096
   pub pre-size : length pre ≡ 1024
   pub below-size : length below ≡ 4096
+
+-- the sizes of the rows of the kept machines
+pub record AboveSizes (above : List ℕ) (onAbove : List Bool) : Type 0 where
+  pub above-size : length above ≡ 256
+  pub on-size : length onAbove ≡ 64
+
+-- the sizes of the rows that tell whether a machine is redundant
+pub record BesideSizes (pre below above : List ℕ) (onAbove : List Bool) (excited : List ℕ) : Type 0 where
+  pub pre-size : length pre ≡ 1024
+  pub below-size : length below ≡ 4096
+  pub kept : AboveSizes above onAbove
+  pub excited-size : length excited ≡ 256
 
 -- the sets of machine m + 1 are made from those of machine m, and those before are as they were
 pub record Extends (sets pre : List ℕ) (m events : ℕ) (old new : List ℕ) : Type 0 where
@@ -41,15 +59,20 @@ pub record Below (sets pre : List ℕ) (machines events : ℕ) (row : List ℕ) 
   pub size : length row ≡ 4096
   pub common : (k e i : ℕ) → k < machines → e < events → memberAt row (k * 64 + e) i ≡ commonTo sets pre e k i
 
--- machine m is one of those that hold each event and whose pre-places are met
-pub record Adds (sets pre : List ℕ) (m events : ℕ) (above : List ℕ) (held : List Bool) (above2 : List ℕ) (held2 : List Bool) : Type 0 where
+-- machine m is one of those that have an event and whose pre-places are met
+pub record Adds (sets pre : List ℕ) (m events : ℕ) (above : List ℕ) (onAbove : List Bool) (above2 : List ℕ) (onAbove2 : List Bool) : Type 0 where
   pub above-size : length above2 ≡ length above
-  pub held-size : length held2 ≡ length held
+  pub on-size : length onAbove2 ≡ length onAbove
   pub common : (e i : ℕ) → e < events → memberAt above2 e i ≡ (memberAt above e i && meets sets pre e m i)
-  pub on : (e : ℕ) → e < events → getD held2 e false ≡ (getD held e false || onMachine pre e m)
+  pub on : (e : ℕ) → e < events → getD onAbove2 e false ≡ (getD onAbove e false || onMachine pre e m)
 
 -- event e is on a machine before m or on one after it that is kept, and no state outside its excitation set is common to its pre-places there
 unfoldable pub coveredWithout : List ℕ → List ℕ → List ℕ → List Bool → List ℕ → ℕ → ℕ → Bool
-coveredWithout pre below above held excited m e =
-    (getD held e false || onSome pre e m)
+coveredWithout pre below above onAbove excited m e =
+    (getD onAbove e false || onSome pre e m)
     && noneBelow (λ i. (memberAt below (m * 64 + e) i && memberAt above e i) && not (memberAt excited e i)) 256
+
+-- machine m is redundant: without it there are others, and they cover every event
+abbrev pub redundant : List ℕ → List ℕ → List ℕ → List Bool → List ℕ → ℕ → ℕ → ℕ → Bool
+redundant pre below above onAbove excited others m events =
+    ltb 0 others && noneBelow (λ e. not (coveredWithout pre below above onAbove excited m e)) events

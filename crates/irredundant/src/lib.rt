@@ -1,19 +1,14 @@
 // Thin: which machines are kept.
 ghost use mathlib.Core.Path.{_≡_};
-ghost use mathlib.Core.Bool.{not, _&&_};
-ghost use mathlib.Core.List.{List};
-ghost use Prim.Native.Nat.{ℕ, _+_, _*_, _<_, _≤_};
-ghost use lib.Dec.{ltb};
+ghost use Prim.Native.Nat.{_<_, _≤_};
 ghost use lib.ListN.{length};
-ghost use Rattle.model.specs.TransitionSystem.{TransitionSystem};
-ghost use Rattle.model.specs.Machine.{Decomposition};
-ghost use Rattle.closure.specs.Covers.{CoverTold};
-ghost use Rattle.irredundant.specs.Kept.{Sizes, Extends, Below, Adds, coveredWithout, noneBelow, Keeps};
+ghost use Rattle.irredundant.specs.Kept.{Sizes, AboveSizes, BesideSizes, Extends, Below, Adds, coveredWithout, redundant, Thins};
 use closure::PLACE_WORDS;
 use closure::is_effective;
 use closure::is_on;
 use closure::meet_pre;
 use model::MAX_EVENTS;
+use state_set::FULL_WORD;
 use state_set::Found;
 use state_set::load;
 use state_set::lowest;
@@ -21,9 +16,6 @@ use state_set::meet;
 use state_set::store;
 use state_set::without;
 use transition_system::EXCITATION_WORDS;
-
-// A word of a set of all states.
-const ALL: u64 = 0xffff_ffff_ffff_ffff;
 
 // The machines that are kept, bit i for machine i, and how many they are.
 pub struct Kept {
@@ -61,23 +53,24 @@ fn meet_below(sets: &[u64], pre: &[u8], machines: usize, events: usize, below: &
     }
 }
 
-// Machine m is kept: its events are held, and only states of its pre-places are common.
+// Machine m is kept: its events are on a kept machine, and only states of its pre-places are common.
 fn add_machine(
     sets: &[u64],
     pre: &[u8],
     m: usize,
     events: usize,
     above: &mut [u64],
-    held: &mut [bool],
+    on_above: &mut [bool],
 )
-    requires { ⌜ (m < 16) × (events ≤ 64) × (length (now sets) ≡ 4096) × (length (now pre) ≡ 1024) × (length (now above) ≡ 256) × (length (now held) ≡ 64) ⌝ }
-    ensures { λ _. ⌜ Adds (now (sets .entry)) (now (pre .entry)) m events (now (above .entry)) (now (held .entry)) (now (above .exit)) (now (held .exit)) ⌝ }
+    requires { ⌜ (m < 16) × (events ≤ 64) × (length (now sets) ≡ 4096) × (length (now pre) ≡ 1024) × AboveSizes (now above) (now «on_above») ⌝ }
+    ensures { λ _. ⌜ Adds (now (sets .entry)) (now (pre .entry)) m events (now (above .entry)) (now («on_above» .entry))
+        (now (above .exit)) (now («on_above» .exit)) ⌝ }
 {
     let mut e = 0;
     while e < events {
         let common = load(above, e);
         store(above, e, meet_pre(common, sets, pre, m, e));
-        held[e] = held[e] | is_on(pre, m, e);
+        on_above[e] = on_above[e] | is_on(pre, m, e);
         e += 1;
     }
 }
@@ -87,15 +80,15 @@ fn is_covered(
     pre: &[u8],
     below: &[u64],
     above: &[u64],
-    held: &[bool],
+    on_above: &[bool],
     excited: &[u64],
     m: usize,
     e: usize,
 ) -> bool
-    requires { ⌜ (m < 16) × (e < 64) × (length (now pre) ≡ 1024) × (length (now below) ≡ 4096) × (length (now above) ≡ 256) × (length (now held) ≡ 64) × (length (now excited) ≡ 256) ⌝ }
-    ensures { λ r. ⌜ r ≡ coveredWithout (now (pre .entry)) (now (below .entry)) (now (above .entry)) (now (held .entry)) (now (excited .entry)) m e ⌝ }
+    requires { ⌜ (m < 16) × (e < 64) × BesideSizes (now pre) (now below) (now above) (now «on_above») (now excited) ⌝ }
+    ensures { λ r. ⌜ r ≡ coveredWithout (now (pre .entry)) (now (below .entry)) (now (above .entry)) (now («on_above» .entry)) (now (excited .entry)) m e ⌝ }
 {
-    if !held[e] {
+    if !on_above[e] {
         if !is_effective(pre, m, e) {
             return false;
         }
@@ -113,21 +106,21 @@ fn is_redundant(
     pre: &[u8],
     below: &[u64],
     above: &[u64],
-    held: &[bool],
+    on_above: &[bool],
     excited: &[u64],
     others: usize,
     m: usize,
     events: usize,
 ) -> bool
-    requires { ⌜ (m < 16) × (events ≤ 64) × (length (now pre) ≡ 1024) × (length (now below) ≡ 4096) × (length (now above) ≡ 256) × (length (now held) ≡ 64) × (length (now excited) ≡ 256) ⌝ }
-    ensures { λ r. ⌜ r ≡ (ltb 0 others && noneBelow (λ e. not (coveredWithout (now (pre .entry)) (now (below .entry)) (now (above .entry)) (now (held .entry)) (now (excited .entry)) m e)) events) ⌝ }
+    requires { ⌜ (m < 16) × (events ≤ 64) × BesideSizes (now pre) (now below) (now above) (now «on_above») (now excited) ⌝ }
+    ensures { λ r. ⌜ r ≡ redundant (now (pre .entry)) (now (below .entry)) (now (above .entry)) (now («on_above» .entry)) (now (excited .entry)) others m events ⌝ }
 {
     if others < 1 {
         return false;
     }
     let mut e = 0;
     while e < events {
-        if !is_covered(pre, below, above, held, excited, m, e) {
+        if !is_covered(pre, below, above, on_above, excited, m, e) {
             return false;
         }
         e += 1;
@@ -144,21 +137,21 @@ pub fn remove_redundant(
     events: usize,
 ) -> Kept
     requires { ⌜ (machines ≤ 16) × (events ≤ 64) × (length (now excited) ≡ 256) × (length (now sets) ≡ 4096) × (length (now pre) ≡ 1024) ⌝ }
-    ensures { λ r. ⌜ ((ts : TransitionSystem) (ms : Decomposition) (post : List ℕ) → CoverTold ts ms (now (pre .entry)) post (now (sets .entry)) (now (excited .entry)) → machines ≡ length ms → events ≡ ts .events → Keeps ts ms r) ⌝ }
+    ensures { λ r. ⌜ Thins (now (pre .entry)) (now (sets .entry)) (now (excited .entry)) machines events r ⌝ }
 {
-    let mut below = [ALL; PLACE_WORDS];
+    let mut below = [FULL_WORD; PLACE_WORDS];
     meet_below(sets, pre, machines, events, &mut below);
-    let mut above = [ALL; EXCITATION_WORDS];
-    let mut held = [false; MAX_EVENTS];
+    let mut above = [FULL_WORD; EXCITATION_WORDS];
+    let mut on_above = [false; MAX_EVENTS];
     let mut kept = 0u16;
     let mut size = 0;
     let mut left = machines;
     while 0 < left {
         let m = left - 1;
         let others = m + size;
-        let stays = !is_redundant(pre, &below, &above, &held, excited, others, m, events);
+        let stays = !is_redundant(pre, &below, &above, &on_above, excited, others, m, events);
         if stays {
-            add_machine(sets, pre, m, events, &mut above, &mut held);
+            add_machine(sets, pre, m, events, &mut above, &mut on_above);
         }
         kept = kept * 2 + stays as u16;
         size += stays as usize;

@@ -12,6 +12,7 @@ use lib.Seq.{getD-set-same, getD-set-other, ext-getD}
 use Rattle.model.specs.Lists.{every, exists, index, elem, count, lowest}
 use Rattle.model.specs.Machine.{Place, placeIn}
 use Rattle.model.proofs.Laws.{dec, order, T-true, T-false, and-l, and-r, Lowest, found, absent, lowest-view}
+use Rattle.model.proofs.ListLaws.{exists-append}
 use Rattle.lines.specs.Rows.{orNoState, placeMark, placeRow}
 use Rattle.lines.specs.Lines.{allBelow, hasRow, duplicateMark}
 use Rattle.lines.specs.Marking.{Marking, marked, markedAll, markedPlaces, upTo64}
@@ -241,15 +242,6 @@ module _ (n p k : ℕ) (m : Marking) (x : ℕ) (xs : List ℕ) (ps : List Place)
           }
 
 -- the next place
-exists-append : (f : ℕ → Bool) (a b : List ℕ) → exists f (a ++ b) ≡ (exists f a || exists f b)
-unfolding exists
-exists-append f [] b = refl
-exists-append f (x ∷ a) b = go (f x) (exists-append f a b)
-  where
-    go : (c : Bool) → exists f (a ++ b) ≡ (exists f a || exists f b) → (c || exists f (a ++ b)) ≡ ((c || exists f a) || exists f b)
-    go true e = refl
-    go false e = e
-
 mark-turn : (k : ℕ) (ys : Place) (ps : List Place) (y : ℕ) → cond (elem y ys) k (markFrom (suc k) ps y) ≡ markFrom k (ys ∷ ps) y
 unfolding elem flatten placeIn index
 mark-turn k ys ps y = rw (exists-append (eqb y) ys (flatten ps)) (go (exists (eqb y) ys))

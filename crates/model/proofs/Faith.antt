@@ -14,7 +14,7 @@ use Rattle.model.specs.Refusal.{Refusal, passed}
 use Rattle.model.specs.TransitionSystem.{TransitionSystem, systemStep, runs, andThen, systemRuns, transitionsRefusal}
 use Rattle.model.specs.Machine.{Machine, Decomposition, Move, places, move, moveFrom, fire, fireAll, both, effective, productStep, productRuns}
 use Rattle.model.specs.Region.{Walk, Stands, MachinesRun}
-use Rattle.model.specs.Services.{Ran, blocker, oneMore, runFrom, whole, blocked, refusedBy, outcomeOf, ranAnswer}
+use Rattle.model.specs.Services.{Ran, blocker, oneMore, runFrom, whole, blocked, refusedBy, outcomeOf, padded, ranAnswer}
 use Rattle.model.specs.Demands.{OfSystem, SystemRuns, ProductRuns, Faithful, Blocks, Tells, Answers}
 use Rattle.model.proofs.Laws.{dec, eqb-of, cond-true, cond-false}
 use Rattle.model.proofs.Positions.{at-below, at-mem, getD-mem}
@@ -217,10 +217,10 @@ one-each p ms s es r i = ap length (i .places) ∙ length-places ms (i .state)
 
 -- the answer tells of the transition system what the run tells
 run-tells : (p : TransitionSystem) (ms : Decomposition) → Within p → transitionsRefusal [] (p .transitions) ≡ none → ((m : Machine) → List·Memᴰ m ms → Good p m) → length ms ≤ 16
-    → (es : List ℕ) (r : Ran) → RunTells p ms (p .initial) es r → (n : ℕ) → r .ran ≡ n → Tells p ms es n (r .places ++ replicate (16 - length (r .places)) 0)
-unfolding systemRuns isSome
+    → (es : List ℕ) (r : Ran) → RunTells p ms (p .initial) es r → (n : ℕ) → r .ran ≡ n → Tells p ms es n (padded (r .places))
+unfolding systemRuns isSome padded
 run-tells p ms b f g few es r i n q =
-    subst (λ (j : ℕ). Tells p ms es j (r .places ++ replicate (16 - length (r .places)) 0)) q
+    subst (λ (j : ℕ). Tells p ms es j (padded (r .places))) q
     (record {
       most = i .short;
       longest = λ k l. (
@@ -241,7 +241,7 @@ run-tells p ms b f g few es r i n q =
 pub answered : (p : TransitionSystem) (ms : Decomposition) → Within p → transitionsRefusal [] (p .transitions) ≡ none
     → ((m : Machine) → List·Memᴰ m ms → Good p m) → ((m : Machine) → List·Memᴰ m ms → Listed p m) → Covers p ms → length ms ≤ 16
     → (es : List ℕ) → OfSystem p es → Answers p ms es (ranAnswer (passed (runFrom p ms (places ms (p .initial)) es)))
-unfolding ranAnswer systemRuns outcomeOf
+unfolding ranAnswer systemRuns outcomeOf padded
 answered p ms b f g w c few es d =
     record {
       ran-whole = (
@@ -257,7 +257,7 @@ answered p ms b f g w c few es d =
     r = runFrom p ms (places ms (p .initial)) es
 
     ps : List ℕ
-    ps = r .places ++ replicate (16 - length (r .places)) 0
+    ps = padded (r .places)
 
     i : RunTells p ms (p .initial) es r
     i = tells p ms b g c es (p .initial) (b .initial)

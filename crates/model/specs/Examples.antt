@@ -14,7 +14,7 @@ use Rattle.model.specs.Bytes.{bytes, isDigit, isLetter, isNameByte, isFi
 use Rattle.model.specs.Form.{isMachineLine, isStepLine, statesLine, spacedName, eventsLine, stepLine, spacedFigure, place, machineLine, lineAfter}
 use Rattle.model.specs.Text.{eventNumber, valueOf, distinct, inLimit, isDeclared, ended, lineThen, linesFrom, read}
 use Rattle.model.specs.Sheet.{addMove, movesBelow, sheetLine, sheetLines, moveBytes, writtenMove, writtenLine, sheet}
-use Rattle.model.specs.Services.{asFarAs7, asFarAs10, asFarAs12, lend, check, blocker, oneMore, runFrom, Outcome, whole, blocked, outcomeOf, ranAnswer, run, thin, printed, writtenAnswer, writtenRefusal}
+use Rattle.model.specs.Services.{asFarAs7, asFarAs10, asFarAs12, lend, check, blocker, oneMore, runFrom, Outcome, whole, blocked, outcomeOf, padded, ranAnswer, runEvents, run, thin, printed, writtenAnswer, writtenRefusal}
 
 -- the plan Y and its two machines
 abbrev pub Y : String
@@ -70,7 +70,7 @@ unfolding Writes Refuses Runs Keeps exists every first index count satisfying is
     machineRefusal machinesRefusal coverRefusal select suffices tryDrop thinBelow keptMarks isDigit isLetter isNameByte isFigure isName digits
     isMachineLine isStepLine statesLine spacedName eventsLine stepLine spacedFigure place machineLine lineAfter eventNumber valueOf distinct inLimit
     isDeclared ended lineThen linesFrom read asFarAs7 asFarAs10 asFarAs12 lend addMove movesBelow sheetLine sheetLines moveBytes writtenMove writtenLine sheet
-    check blocker oneMore runFrom outcomeOf ranAnswer run thin printed writtenAnswer writtenRefusal numeral numeralUpTo
+    check blocker oneMore runFrom outcomeOf padded ranAnswer runEvents run thin printed writtenAnswer writtenRefusal numeral numeralUpTo
 starred =
     record {
       y = refl;

@@ -19,7 +19,7 @@ use Rattle.reader.specs.Told.{entry}
 use Rattle.reader.proofs.Searches.{below-in}
 use Rattle.product.specs.declared.Stepped.{Stepped}
 use Rattle.product.specs.Stepping.{Standing, firesAt, Steps, Runs}
-use Rattle.product.proofs.Places.{sixteen-stands, stands-sixteen}
+use Rattle.product.proofs.Places.{padded-stands, stands-padded}
 
 module _ (ts : TransitionSystem) (e : ℕ) where
   -- each machine goes
@@ -58,7 +58,7 @@ module _
     {ts : TransitionSystem} {ms : Decomposition} {pre post : List ℕ} {machines : ℕ} {qs row : List ℕ} (r : Runs ts ms pre post machines qs row)
     (few : machines ≤ 16) {e : ℕ} (known : e < ts .events) {s : Stepped} (steps : Steps pre post machines row e s) where
   row-stands : Standing (entry qs) (length qs) row
-  row-stands = rw (r .standing) (sixteen-stands qs (omega (arith, r .one-each, r .counted)))
+  row-stands = rw (r .standing) (padded-stands qs (omega (arith, r .one-each, r .counted)))
 
   -- the rows tell whether a machine goes, and where to
   fires-told : (k : ℕ) (m : Machine) → At ms k m → firesAt pre post row e k ≡ fire ts m e (entry qs k)
@@ -88,7 +88,7 @@ module _
         counted = r .counted;
         one-each = places-counted ∙ r .counted;
         standing =
-            stands-sixteen (take machines (s .places)) (omega (arith, places-counted))
+            stands-padded (take machines (s .places)) (omega (arith, places-counted))
             (record {
               size = steps .size;
               stands = λ k l. sym (getD-take machines (s .places) k 0 (omega (arith, places-counted)));

@@ -6,10 +6,11 @@ use mathlib.Core.Logic.{_⊎_, inl, inr}
 use mathlib.Core.List.{List, []}
 use lib.ListN.{length, replicate, set, length-append, length-replicate, length-set, List·getD-append}
 use lib.Seq.{getD-set-same, getD-set-other, ext-getD}
+use Rattle.model.specs.Services.{padded}
 use Rattle.model.proofs.Laws.{order}
 use Rattle.model.proofs.Faith.{getD-padded}
 use Rattle.reader.specs.Told.{entry}
-use Rattle.product.specs.Stepping.{Standing, sixteen}
+use Rattle.product.specs.Stepping.{Standing}
 
 -- the first k of the machines stand in their places
 pub record Placing (place : ℕ → ℕ) (machines : ℕ) (row : List ℕ) (k : ℕ) : Type 0 where
@@ -45,9 +46,9 @@ module _ {place : ℕ → ℕ} {machines : ℕ} where
   place-end {row} {k} p l = let e : k ≡ machines = omega arith in subst (λ (n : ℕ). Standing place n row) e (p .placed)
 
 -- the list of places with 0 after it
-pub sixteen-stands : (qs : List ℕ) → length qs ≤ 16 → Standing (entry qs) (length qs) (sixteen qs)
-unfolding sixteen
-sixteen-stands qs h =
+pub padded-stands : (qs : List ℕ) → length qs ≤ 16 → Standing (entry qs) (length qs) (padded qs)
+unfolding padded
+padded-stands qs h =
     let zeros : List ℕ = replicate (16 - length qs) 0 in
     record {
       size = omega (arith, length-append qs zeros, length-replicate {A = ℕ} (16 - length qs) 0);
@@ -56,11 +57,11 @@ sixteen-stands qs h =
     }
 
 -- there is one such row
-pub stands-sixteen : (qs : List ℕ) {row : List ℕ} → length qs ≤ 16 → Standing (entry qs) (length qs) row → row ≡ sixteen qs
-stands-sixteen qs {row} h s =
-    let z = sixteen-stands qs h in
-    ext-getD 0 row (sixteen qs) (s .size ∙ sym (z .size)) (λ k l. go z k (order k (length qs)))
+pub stands-padded : (qs : List ℕ) {row : List ℕ} → length qs ≤ 16 → Standing (entry qs) (length qs) row → row ≡ padded qs
+stands-padded qs {row} h s =
+    let z = padded-stands qs h in
+    ext-getD 0 row (padded qs) (s .size ∙ sym (z .size)) (λ k l. go z k (order k (length qs)))
   where
-    go : Standing (entry qs) (length qs) (sixteen qs) → (k : ℕ) → (k < length qs) ⊎ (length qs ≤ k) → entry row k ≡ entry (sixteen qs) k
+    go : Standing (entry qs) (length qs) (padded qs) → (k : ℕ) → (k < length qs) ⊎ (length qs ≤ k) → entry row k ≡ entry (padded qs) k
     go z k (inl b) = s .stands k b ∙ sym (z .stands k b)
     go z k (inr b) = s .unused k b ∙ sym (z .unused k b)

@@ -14,7 +14,7 @@ use Rattle.reader.specs.Told.{entry}
 use Rattle.product.specs.declared.Outcome.the-variants.{Whole, Blocked}
 use Rattle.product.specs.declared.Stepped.{Stepped}
 use Rattle.product.specs.Answers.{outcomeIs, runAnswer}
-use Rattle.product.specs.Stepping.{Steps, sixteen, Runs, runsFrom}
+use Rattle.product.specs.Stepping.{Steps, Runs, EventsBelow, RunsFrom}
 use Rattle.product.proofs.Firing.{step-moves, runs-on, step-blocks}
 
 -- n events ran before
@@ -34,14 +34,10 @@ pub record Reached (ts : TransitionSystem) (ms : Decomposition) (pre post : List
   pub runs : Runs ts ms pre post machines at places
   pub rest : runFrom ts ms qs events ≡ after ran (runFrom ts ms at (drop ran events))
 
--- every event is one of the system's
-abbrev Known : TransitionSystem → List ℕ → Type 0
-Known ts events = (i : ℕ) → i < length events → entry events i < ts .events
-
 -- `ran` of the events ran
 pub record Running (pre post : List ℕ) (machines : ℕ) (start events places : List ℕ) (ran : ℕ) : Type 0 where
   pub most : ran ≤ length events
-  pub reached : (ts : TransitionSystem) (ms : Decomposition) (qs : List ℕ) → Runs ts ms pre post machines qs start → Known ts events
+  pub reached : (ts : TransitionSystem) (ms : Decomposition) (qs : List ℕ) → Runs ts ms pre post machines qs start → EventsBelow (ts .events) events
       → Reached ts ms pre post machines qs events places ran
 
 module _ {pre post : List ℕ} {machines : ℕ} {start events : List ℕ} where
@@ -74,22 +70,20 @@ module _ {pre post : List ℕ} {machines : ℕ} {start events : List ℕ} where
                 };
           }
 
-      -- a machine blocks it
+      -- a machine blocks it: all stay where they are
       pub run-blocked : s .blocker < machines
-          → (ts : TransitionSystem) (ms : Decomposition) (qs : List ℕ) → Runs ts ms pre post machines qs start → Known ts events
-          → runAnswer (record { outcome = Blocked ran (s .blocker); places = places }) ≡ runsFrom ts ms qs events
-      unfolding runAnswer outcomeIs runsFrom ranAnswer outcomeOf sixteen
+          → RunsFrom pre post machines start events (runAnswer (record { outcome = Blocked ran (s .blocker); places = s .places }))
+      unfolding runAnswer outcomeIs ranAnswer outcomeOf
       run-blocked h ts ms qs r k =
           let w = run .reached ts ms qs r k in
           let b = step-blocks (w .runs) few (k ran l) steps h in
+          let stops = run-stops ts ms (w .at) (entry events ran) (drop (suc ran) events) (b .0) in
           let z : ran + 0 ≡ ran = omega arith in
-          rw (w .rest, drop-cons events ran 0 l, run-stops ts ms (w .at) (entry events ran) (drop (suc ran) events) (b .0), b .1, z, w .runs .standing)
+          rw (w .rest, drop-cons events ran 0 l, stops, b .1, z, steps .stay h, w .runs .standing)
 
     -- all ran
-    pub run-end : length events ≤ ran
-        → (ts : TransitionSystem) (ms : Decomposition) (qs : List ℕ) → Runs ts ms pre post machines qs start → Known ts events
-        → runAnswer (record { outcome = Whole; places = places }) ≡ runsFrom ts ms qs events
-    unfolding runAnswer outcomeIs runsFrom runFrom ranAnswer outcomeOf sixteen
+    pub run-end : length events ≤ ran → RunsFrom pre post machines start events (runAnswer (record { outcome = Whole; places = places }))
+    unfolding runAnswer outcomeIs runFrom ranAnswer outcomeOf
     run-end h ts ms qs r k =
         let w = run .reached ts ms qs r k in
         rw (w .rest, drop-of-length-le events h, w .runs .standing)

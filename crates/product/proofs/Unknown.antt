@@ -8,17 +8,18 @@ use borrow.Author.Tests.{lt-ltb, le-ltb}
 use lib.Dec.{T, ltb, ltb→lt, leb·suc-suc}
 use lib.ListN.{length}
 use Rattle.model.specs.Lists.{every, index}
+use Rattle.model.specs.Refusal.{refused, passed}
 use Rattle.model.specs.Cases.{tabled}
 use Rattle.model.specs.TransitionSystem.{TransitionSystem, declared}
 use Rattle.model.specs.Machine.{Decomposition}
-use Rattle.model.specs.Services.{ranAnswer}
+use Rattle.model.specs.Services.{runFrom, runEvents}
 use Rattle.model.specs.declared.Refusal.the-variants.{UnknownEvent}
 use Rattle.model.proofs.Laws.{every-elim}
 use Rattle.model.proofs.Positions.{getD-mem}
+use Rattle.model.proofs.Refusing.{events-declared, events-unknown}
 use Rattle.reader.specs.Told.{entry}
 use Rattle.reader.proofs.Searches.{Upto, index-is}
-use Rattle.product.specs.Answers.{turnedDown}
-use Rattle.product.specs.Stepping.{runsFrom, runsEvents}
+use Rattle.product.specs.Stepping.{EventsBelow}
 
 -- the search stops at an event that is not declared, or at the end
 pub unknown-first : (declared : ℕ) (events : List ℕ) {i : ℕ} → Upto (λ j. entry events j < declared) (length events) i
@@ -43,17 +44,19 @@ module _ (events : List ℕ) (n : ℕ) {position : ℕ} (v : position ≡ index 
   known-test = rw v (every-index (λ e. ltb e n) events)
 
   -- the search came to the end: each event is declared
-  pub all-known : length events ≤ position → (i : ℕ) → i < length events → entry events i < n
+  pub all-known : length events ≤ position → EventsBelow n events
   all-known h i l =
       let t : T (every (λ e. ltb e n) events) = rw (known-test, le-ltb position (length events) h) tt in
       ltb→lt (entry events i) n (every-elim (λ e. ltb e n) events t (entry events i) (getD-mem events i 0 l))
 
   module _ (ts : TransitionSystem) (ms : Decomposition) (qs : List ℕ) (d : n ≡ ts .events) where
-    pub runs-known : length events ≤ position → runsFrom ts ms qs events ≡ runsEvents ts ms qs events
-    unfolding runsFrom runsEvents declared
-    runs-known h = rw (sym d, known-test, le-ltb position (length events) h)
+    pub runs-known : length events ≤ position → runEvents ts ms qs events ≡ passed (runFrom ts ms qs events)
+    unfolding declared
+    runs-known h = events-declared ts ms qs events (rw (sym d, known-test, le-ltb position (length events) h) tt)
 
     -- it stopped before: 14
-    pub runs-unknown : position < length events → turnedDown (UnknownEvent position) ≡ runsEvents ts ms qs events
-    unfolding runsEvents declared turnedDown tabled ranAnswer
-    runs-unknown h = rw (sym d, known-test, lt-ltb position (length events) h, v)
+    pub runs-unknown : position < length events → runEvents ts ms qs events ≡ refused (tabled (UnknownEvent position))
+    unfolding declared tabled
+    runs-unknown h =
+        let t : T (not (declared ts events)) = rw (sym d, known-test, lt-ltb position (length events) h) tt in
+        rw (events-unknown ts ms qs events t, v, d)

@@ -1,6 +1,4 @@
 -- What Run answers in the model's words, with document 01's number and details for a refusal.
-use lib.ListN.{replicate}
-use Rattle.model.specs.declared.Refusal as D
 use Rattle.model.specs.Cases.{tabled}
 use Rattle.model.specs.Services as Services
 use Rattle.product.specs.declared.Outcome.{Outcome}
@@ -15,7 +13,3 @@ outcomeIs (Refused why) = Services.refusedBy (tabled why)
 
 unfoldable pub runAnswer : RunAnswer → Services.RunAnswer
 runAnswer r = record { outcome = outcomeIs (r .outcome); places = r .places }
-
--- "A refusal returns its number and details, all else in the answer 0"
-unfoldable pub turnedDown : D.Refusal → Services.RunAnswer
-turnedDown why = record { outcome = Services.refusedBy (tabled why); places = replicate 16 0 }

@@ -1,3 +1,3 @@
--- `Answers`: what Run answers in the model's words. `Stepping`: how the machines stand and step, by the rows.
+-- `Answers`: what Run answers in the model's words. `Stepping`: how the machines stand, step and run, by the rows.
 pub mod Answers
 pub mod Stepping

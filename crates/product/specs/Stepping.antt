@@ -1,14 +1,13 @@
--- How the machines stand and step, by the rows of their moves.
-use Prim.Native.Nat.{ℕ, _-_, _≤_, _<_}
+-- How the machines stand, step and run, by the rows of their moves.
+use Prim.Native.Nat.{ℕ, _≤_, _<_}
 use mathlib.Core.Path.{_≡_}
 use mathlib.Core.Bool.{true, not}
-use mathlib.Core.List.{List, _++_}
+use mathlib.Core.List.{List}
 use mathlib.Core.Option.{Option, some}
-use lib.Dec.{ltb}
-use lib.ListN.{length, replicate}
-use Rattle.model.specs.Lists.{isSome, index, lowest}
-use Rattle.model.specs.Refusal.{refuse, passed, need, _>>_}
-use Rattle.model.specs.TransitionSystem.{TransitionSystem, declared}
+use lib.ListN.{length}
+use Rattle.model.specs.Lists.{isSome, lowest}
+use Rattle.model.specs.Refusal.{passed}
+use Rattle.model.specs.TransitionSystem.{TransitionSystem}
 use Rattle.model.specs.Machine.{Decomposition, effective, moveFrom}
 use Rattle.model.specs.Services as Services
 use Rattle.reader.specs.Told.{entry, below}
@@ -33,23 +32,26 @@ pub record Steps (pre post : List ℕ) (machines : ℕ) (places : List ℕ) (e :
   pub move : machines ≤ r .blocker → (k : ℕ) → k < machines → firesAt pre post places e k ≡ some (entry (r .places) k)
   pub others : (k : ℕ) → machines ≤ k → entry (r .places) k ≡ entry places k
 
--- the places of all machines, and 0 for machine numbers not in use
-unfoldable pub sixteen : List ℕ → List ℕ
-sixteen qs = qs ++ replicate (16 - length qs) 0
-
 -- the rows tell the machines' moves, each event is on a machine, and they stand in the places qs
 pub record Runs (ts : TransitionSystem) (ms : Decomposition) (pre post : List ℕ) (machines : ℕ) (qs row : List ℕ) : Type 0 where
   pub moves : MovesTold ts ms pre post
   pub effective : (e : ℕ) → e < ts .events → effective ts ms e ≡ true
   pub counted : machines ≡ length ms
   pub one-each : length qs ≡ length ms
-  pub standing : row ≡ sixteen qs
+  pub standing : row ≡ Services.padded qs
 
--- what Run answers of declared events from these places, and of any
-unfoldable pub runsFrom : TransitionSystem → Decomposition → List ℕ → List ℕ → Services.RunAnswer
-runsFrom ts ms qs es = Services.ranAnswer (passed (Services.runFrom ts ms qs es))
+-- every event is below n
+abbrev pub EventsBelow : ℕ → List ℕ → Type 0
+EventsBelow n es = (i : ℕ) → i < length es → entry es i < n
 
-unfoldable pub runsEvents : TransitionSystem → Decomposition → List ℕ → List ℕ → Services.RunAnswer
-runsEvents ts ms qs es =
-    Services.ranAnswer
-    (need (refuse 14 (index (λ e. not (ltb e (ts .events))) es) 0) (declared ts es) >> passed (Services.runFrom ts ms qs es))
+-- what Run answers of declared events, for every system whose machines the rows tell
+abbrev pub RunsFrom : List ℕ → List ℕ → ℕ → List ℕ → List ℕ → Services.RunAnswer → Type 0
+RunsFrom pre post machines row es a =
+    (ts : TransitionSystem) (ms : Decomposition) (qs : List ℕ)
+    → Runs ts ms pre post machines qs row → EventsBelow (ts .events) es → a ≡ Services.ranAnswer (passed (Services.runFrom ts ms qs es))
+
+-- what Run answers of any events, for every such system with so many declared
+abbrev pub RunsEvents : List ℕ → List ℕ → ℕ → ℕ → List ℕ → List ℕ → Services.RunAnswer → Type 0
+RunsEvents pre post machines declared row es a =
+    (ts : TransitionSystem) (ms : Decomposition) (qs : List ℕ)
+    → Runs ts ms pre post machines qs row → declared ≡ ts .events → a ≡ Services.ranAnswer (Services.runEvents ts ms qs es)

@@ -1,17 +1,17 @@
 // Run: the machines together, from given places over a list of events.
 ghost use mathlib.Core.Path.{_≡_};
 ghost use mathlib.Core.Bool.{not};
-ghost use mathlib.Core.List.{List};
-ghost use Prim.Native.Nat.{ℕ, _*_, _+_, _<_, _≤_};
+ghost use Prim.Native.Nat.{_*_, _+_, _<_, _≤_};
 ghost use lib.Dec.{ltb};
 ghost use lib.ListN.{length};
 ghost use Rattle.model.specs.Lists.{index};
-ghost use Rattle.model.specs.TransitionSystem.{TransitionSystem};
-ghost use Rattle.model.specs.Machine.{Decomposition};
+ghost use Rattle.model.specs.Refusal as Checked;
+ghost use Rattle.model.specs.Cases.{tabled};
+ghost use Rattle.model.specs.Services.{ranAnswer};
 ghost use Rattle.reader.specs.Told.{entry};
 ghost use Rattle.regions.specs.Moves.{MoveRows};
-ghost use Rattle.product.specs.Answers.{runAnswer, turnedDown};
-ghost use Rattle.product.specs.Stepping.{Standing, Steps, Runs, runsFrom, runsEvents};
+ghost use Rattle.product.specs.Answers.{runAnswer};
+ghost use Rattle.product.specs.Stepping.{Standing, Steps, EventsBelow, RunsFrom, RunsEvents};
 use model::MAX_EVENTS;
 use model::MAX_MACHINES;
 use model::MAX_PLACES;
@@ -35,7 +35,7 @@ pub struct RunAnswer {
 }
 
 pub fn refused(why: Refusal) -> RunAnswer
-    ensures { λ r. ⌜ runAnswer r ≡ turnedDown why ⌝ }
+    ensures { λ r. ⌜ runAnswer r ≡ ranAnswer (Checked.refused (tabled why)) ⌝ }
 {
     RunAnswer {
         outcome: Outcome::Refused(why),
@@ -116,13 +116,14 @@ fn run_from<'a>(
     start: [u8; MAX_MACHINES],
     events: &'a [u8],
 ) -> RunAnswer
-    requires { ⌜ (machines ≤ 16) × MoveRows (now pre) (now post) × ((i : ℕ) → i < length (now events) → entry (now events) i < 64) ⌝ }
-    ensures { λ r. ⌜ ((ts : TransitionSystem) (ms : Decomposition) (qs : List ℕ) → Runs ts ms (now (pre .entry)) (now (post .entry)) machines qs start → ((i : ℕ) → i < length (now (events .entry)) → entry (now (events .entry)) i < ts .events) → runAnswer r ≡ runsFrom ts ms qs (now (events .entry))) ⌝ }
+    requires { ⌜ (machines ≤ 16) × MoveRows (now pre) (now post) × EventsBelow 64 (now events) ⌝ }
+    ensures { λ r. ⌜ RunsFrom (now (pre .entry)) (now (post .entry)) machines start (now (events .entry)) (runAnswer r) ⌝ }
 {
     let mut places = start;
     let mut ran = 0;
     while ran < events.len() {
         let next = step(pre, post, machines, places, wide(events[ran]));
+        places = next.places;
         let blocker = next.blocker;
         if blocker < machines {
             return RunAnswer {
@@ -133,7 +134,6 @@ fn run_from<'a>(
                 places,
             };
         }
-        places = next.places;
         ran += 1;
     }
     RunAnswer {
@@ -152,7 +152,7 @@ pub fn run_events<'a>(
     events: &'a [u8],
 ) -> RunAnswer
     requires { ⌜ (machines ≤ 16) × (declared ≤ 64) × MoveRows (now pre) (now post) ⌝ }
-    ensures { λ r. ⌜ ((ts : TransitionSystem) (ms : Decomposition) (qs : List ℕ) → Runs ts ms (now (pre .entry)) (now (post .entry)) machines qs start → declared ≡ ts .events → runAnswer r ≡ runsEvents ts ms qs (now (events .entry))) ⌝ }
+    ensures { λ r. ⌜ RunsEvents (now (pre .entry)) (now (post .entry)) machines declared start (now (events .entry)) (runAnswer r) ⌝ }
 {
     let position = unknown_event(events, declared);
     if position < events.len() {

@@ -4,13 +4,14 @@ use native.Mathlib.Numerals.{add-one}
 use native.Mathlib.Omega.{arith}
 use mathlib.Core.Path.{_≡_, refl, sym, ap, _∙_}
 use mathlib.Core.Logic.{_⊎_, inl, inr}
-use mathlib.Core.Bool.{Bool, _||_, or-false, or-assoc}
+use mathlib.Core.Bool.{Bool, _||_, or-false}
 use mathlib.Core.List.{List, [], _∷_, _++_, append-assoc, List·Memᴰ, List·Memᴰ·head, Memᴰ·append-right}
 use lib.ListN.{length, getD, length-append}
 use lib.Seq.{getD-at}
 use Rattle.model.specs.Lists.{exists}
 use Rattle.model.specs.TransitionSystem.{Transition}
 use Rattle.model.proofs.Laws.{below-suc}
+use Rattle.model.proofs.ListLaws.{exists-append}
 use Rattle.model.proofs.Positions.{at-below, mem-at, at-value}
 use Rattle.model.proofs.Bounds.{Within}
 use Rattle.reader.specs.declared.Tables.{Tables}
@@ -20,8 +21,7 @@ use Rattle.reader.specs.Bounded.{Bounded}
 -- one element more
 pub exists-snoc : {A : Type 0} (f : A → Bool) (l : List A) (x : A) → exists f (l ++ (x ∷ [])) ≡ (exists f l || f x)
 unfolding exists
-exists-snoc f [] x = or-false (f x)
-exists-snoc f (y ∷ l) x = rw (exists-snoc f l x, or-assoc)
+exists-snoc f l x = exists-append f l (x ∷ []) ∙ ap (λ (b : Bool). exists f l || b) (or-false (f x))
 
 module _ (sources events targets : List ℕ) where
   abbrev front : ℕ → List Transition

@@ -19,6 +19,7 @@ use Rattle.model.specs.Text.{Input, system, Limits, nameAt, read, write}
 use Rattle.model.proofs.Laws.{dec, T-true, T-false, exists-intro, Lowest, found, absent, lowest-view}
 use Rattle.model.proofs.Positions.{at-below, below-at, at-mem, at-getD, at-value, index-below}
 use Rattle.model.proofs.Places.{home}
+use Rattle.model.proofs.Passed.{machines-good}
 use Rattle.model.proofs.Naming.{name-part}
 use Rattle.model.proofs.Verdicts.{read-iff}
 use Rattle.lines.specs.Rows.{row, tabulate, placeMark, orNoState}
@@ -26,7 +27,7 @@ use Rattle.lines.proofs.Rows.{getD-row, row-at, getD-tabulate, length-tabulate,
 use Rattle.reader.specs.declared.Tables.{Tables}
 use Rattle.reader.specs.declared.Reading.{Reading}
 use Rattle.reader.specs.Tables.{verdictRefusal, tablesOf, Answers}
-use Rattle.reader.specs.Told.{entry, firstTransitions, systemOf, nameOf, orNone, placeAt, duplicateAt, MachineTold, Told}
+use Rattle.reader.specs.Told.{entry, firstTransitions, systemOf, nameOf, orNone, placeAt, duplicateAt, MachineTold, MachinesTold, Told}
 use Rattle.reader.proofs.MachineSection.{rowOf, length-rows}
 
 -- ---- marks as options
@@ -60,6 +61,13 @@ pub placed-at :
 unfolding placeAt
 placed-at {p = p} {k} {m} told x h t =
     option-entry 255 (entry (p .place) (k * 256 + x)) (M.placeOf m x) (told .place x h ∙ rw (T-true (elem x (flatten (m .places))) t))
+
+-- a machine that passes 9 lists every state, so the row has the place of each
+pub told-place :
+    {ts : TransitionSystem} {p : Tables} {ms : M.Decomposition} → MachinesTold ts p ms → M.machinesRefusal ts 0 ms ≡ none → ts .states ≤ 256
+    → (k i : ℕ) (m : Machine) → At ms k m → i < ts .states → entry (p .place) (k * 256 + i) ≡ M.placeOf m i
+told-place {ts} {ms = ms} told passes small k i m a l =
+    placed-at (told .machine k m a) i (omega arith) (machines-good ts 0 ms passes m (at-mem ms k m a) .base .placed i l)
 
 state-option : (f : ℕ → Bool) (n : ℕ) → n ≤ 256 → orNone 256 (orNoState (lowest f n)) ≡ lowest f n
 unfolding orNone orNoState

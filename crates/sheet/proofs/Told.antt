@@ -11,12 +11,11 @@ use Rattle.model.specs.TransitionSystem.{TransitionSystem}
 use Rattle.model.specs.Machine.{Machine, placeOf, move, machinesRefusal}
 use Rattle.model.specs.Text.{Input, system, Limits}
 use Rattle.model.specs.Sheet.{movesBelow, sheetLine, sheetLines, sheet}
-use Rattle.model.proofs.Positions.{below-at, at-mem, at-value}
-use Rattle.model.proofs.Passed.{machines-good}
+use Rattle.model.proofs.Positions.{below-at, at-value}
 use Rattle.model.proofs.Sheets.{at-lines, lines-length}
 use Rattle.reader.specs.declared.Tables.{Tables}
 use Rattle.reader.specs.Told.{entry, nameOf, Told}
-use Rattle.reader.proofs.Telling.{placed-at, told-events, told-initial}
+use Rattle.reader.proofs.Telling.{told-place, told-events, told-initial}
 use Rattle.regions.specs.Moves.{moveAt, MovesTold}
 use Rattle.sheet.specs.Written.{namesIn, rowNames, rowMoves, rowLine, rowLines, rowSheet}
 
@@ -34,12 +33,10 @@ module _ (s : List ℕ) (v : Input) (p : Tables) (pre post : List ℕ) (told : T
   names-told zero h = refl
   names-told (suc n) h = rw (take-suc (v .names) n [] h, names-told n (omega arith), told .name n h)
 
-  -- the state is listed, since the machine passes 9
-  pub start-told : (k : ℕ) (m : Machine) → At (v .machines) k m → entry (p .place) (k * 256 + p .initial) ≡ placeOf m (v .initial)
+  start-told : (k : ℕ) (m : Machine) → At (v .machines) k m → entry (p .place) (k * 256 + p .initial) ≡ placeOf m (v .initial)
   start-told k m a =
       rw (told-initial told)
-      (placed-at (told .tells-machines .machine k m a) (v .initial) (omega (arith, l .initial))
-      (machines-good (system v) 0 (v .machines) passes m (at-mem (v .machines) k m a) .base .placed (v .initial) (omega (arith, l .initial, l .states-least))))
+      (told-place (told .tells-machines) passes (l .states-most) k (v .initial) m a (omega (arith, l .initial, l .states-least)))
 
   line-told : (k : ℕ) (m : Machine) → At (v .machines) k m → rowLine p pre post k ≡ sheetLine (system v) k m
   unfolding rowLine sheetLine

@@ -8,9 +8,9 @@ use lib.Seq.{sets}
 use Rattle.model.specs.declared.Refusal as D
 use Rattle.model.specs.declared.Refusal.the-variants.{BufferTooShort}
 use Rattle.model.specs.Cases.{tabled}
-use Rattle.model.specs.Refusal.{passed, refusalOf}
+use Rattle.model.specs.Refusal.{refused, passed, refusalOf}
 use Rattle.model.specs.TransitionSystem.{TransitionSystem, systemRefusal}
-use Rattle.model.specs.Machine.{Decomposition}
+use Rattle.model.specs.Machine.{Decomposition, machinesRefusal}
 use Rattle.model.specs.Text.{Input, system, read}
 use Rattle.model.specs.Sheet.{sheet}
 use Rattle.model.specs.Services.{asFarAs7, asFarAs12}
@@ -24,7 +24,7 @@ use Rattle.reader.specs.Told.{systemOf, MachinesTold, Told}
 use Rattle.reader.proofs.Bounds.{limits, bounded, names-inside}
 use Rattle.closure.specs.Covers.{CoverTold}
 use Rattle.closure.proofs.Filling.{no-machines}
-use Rattle.checker.specs.Order.{refusalTo12}
+use Rattle.checker.specs.Order.{refusalTo12, CheckedTo12}
 use Rattle.checker.proofs.Verdicts.{refuses, lets-pass, no-excitations}
 use Rattle.sheet.specs.Written.{rowSheet}
 use Rattle.sheet.proofs.Told.{told-sheet, lent}
@@ -87,46 +87,54 @@ module _ {s : List ℕ} {p : Tables} (h : Held (read s) s p) where
   machines-told = subst (λ (t : TransitionSystem). MachinesTold t p machines) (sym same) (h .told .tells-machines)
 
   -- the verdict on what the rows tell is that on the text
-  pub judged-12 : (r : Verdict) {pre post sets excited : List ℕ} → ((ms : Decomposition) → MachinesTold (systemOf p) p ms → verdictRefusal r ≡ refusalTo12 (systemOf p) ms)
-      → ((ms : Decomposition) → MachinesTold (systemOf p) p ms → verdictRefusal r ≡ none → CoverTold (systemOf p) ms pre post sets excited)
+  pub judged-12 : (r : Verdict) {pre post sets excited : List ℕ} → CheckedTo12 p pre post sets excited r
       → ReadAsFarAs12 s (record { verdict = r; tables = p }) pre post sets excited
-  judged-12 r {pre} {post} {sets} {excited} refusal cover =
-      let q = refusal machines machines-told ∙ ap (λ (t : TransitionSystem). refusalTo12 t machines) same in
+  judged-12 r {pre} {post} {sets} {excited} t =
+      let q = t .refusal machines machines-told ∙ ap (λ (t : TransitionSystem). refusalTo12 t machines) same in
       record {
         verdict = q ∙ sym (refusal-12 s (h .value) (h .passes));
         judged = λ n.
             record {
               held = h;
               passes = sym q ∙ n;
-              cover = subst (λ (t : TransitionSystem). CoverTold t machines pre post sets excited) same (cover machines machines-told n);
+              cover = subst (λ (t : TransitionSystem). CoverTold t machines pre post sets excited) same (t .rows machines machines-told n);
             };
       }
 
--- ---- Check and sheet
+module _ {s : List ℕ} {r : Reading} {pre post sets excited : List ℕ} (t : ReadAsFarAs12 s r pre post sets excited) where
+  pub refused-text : {why : D.Refusal} → r .verdict ≡ Refused why → asFarAs12 s ≡ refused (tabled why)
+  refused-text e = refused-as (t .verdict) e
 
-pub refused-text : (s out : List ℕ) {r : Verdict} {why : D.Refusal} → verdictRefusal r ≡ refusalOf (asFarAs12 s) → r ≡ Refused why
-    → Gives s out (answered (A.Refused why)) out
-unfolding answered
-refused-text s out h e = turned-down s out _ (refused-as h e)
+  pub past-text : r .verdict ≡ Passed → Judged s (r .tables) pre post sets excited
+  past-text e = t .judged (lets-pass e)
 
 module _ {s : List ℕ} {p : Tables} {pre post rows excited : List ℕ} (j : Judged s p pre post rows excited) where
   abbrev value : Input
   value = j .held .value
 
-  past-12 : asFarAs12 s ≡ passed value
+  pub past-12 : asFarAs12 s ≡ passed value
   past-12 = passed-12 s value (j .held .passes) (j .passes)
 
-  sheet-told : rowSheet s p pre post ≡ sheet value
+  pub machines-pass : machinesRefusal (system value) 0 (value .machines) ≡ none
   unfolding refusalTo12
-  sheet-told =
-      told-sheet s value p pre post (j .held .told) (j .cover .moves) (orElse-none _ _ (orElse-none _ _ (j .passes) .1) .0) (limits s value (j .held .passes))
+  machines-pass = orElse-none _ _ (orElse-none _ _ (j .passes) .1) .0
+
+-- ---- Check and sheet
+
+pub check-refused : (s out : List ℕ) (why : D.Refusal) → asFarAs12 s ≡ refused (tabled why) → Gives s out (answered (A.Refused why)) out
+unfolding answered
+check-refused s out why e = turned-down s out _ e
+
+module _ {s : List ℕ} {p : Tables} {pre post rows excited : List ℕ} (j : Judged s p pre post rows excited) where
+  sheet-told : rowSheet s p pre post ≡ sheet (value j)
+  sheet-told = told-sheet s (value j) p pre post (j .held .told) (j .cover .moves) (machines-pass j) (limits s (value j) (j .held .passes))
 
   pub refused-buffer : (out : List ℕ) (size : ℕ) → size ≡ length (rowSheet s p pre post) → length out < size
       → Gives s out (answered (A.Refused (BufferTooShort size))) out
   unfolding answered tabled
   refused-buffer out size e l =
       let q = e ∙ ap length sheet-told in
-      rw q (too-short s out value past-12 (rw q at l))
+      rw q (too-short s out (value j) (past-12 j) (rw q at l))
 
   pub written : (out left : List ℕ) (size : ℕ) → size ≡ length (rowSheet s p pre post) → size ≤ length out → left ≡ sets out 0 (rowSheet s p pre post)
       → Gives s out (answered (A.Accepted size)) left
@@ -134,4 +142,4 @@ module _ {s : List ℕ} {p : Tables} {pre post rows excited : List ℕ} (j : Jud
   written out left size e l w =
       let q = e ∙ ap length sheet-told in
       let fits = rw q at l in
-      rw (q, w, sheet-told, lent out (sheet value) fits) (accepted s out value past-12 fits)
+      rw (q, w, sheet-told, lent out (sheet (value j)) fits) (accepted s out (value j) (past-12 j) fits)

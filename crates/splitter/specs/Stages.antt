@@ -38,7 +38,7 @@ pub record ReadAsFarAs7 (s : List ℕ) (r : Reading) : Type 0 where
   pub verdict : verdictRefusal (r .verdict) ≡ refusalOf (asFarAs7 s)
   pub held : verdictRefusal (r .verdict) ≡ none → Held (asFarAs7 s) s (r .tables)
 
--- the rows that are lent for the check as far as 12, as they are made: no move, no state in any set
+-- the rows that are lent for the check as far as 12: of their full size, with no state in any set
 pub record Fresh (pre post excited sets : List ℕ) : Type 0 where
   pub moves : MoveRows pre post
   pub excitations : Excitations [] excited

@@ -1,4 +1,4 @@
--- The laws behind the sets. `Sets` and `Rows` are for the crates above too: the members of the constants, and of a fresh row.
+-- The laws behind the sets. `Sets` and `Rows` are for the crates above too: the members of the constants, of what is stored, and of a fresh row.
 
 -- the digits of what the operators give
 pub mod Digits

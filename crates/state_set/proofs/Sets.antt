@@ -42,8 +42,12 @@ low i = mod-lt i (zero-lt-suc 63)
 pub empty-member : (i : ℕ) → member (four 0 0 0 0) i ≡ false
 empty-member i = members (λ k. 0) (λ k. refl) i ∙ zero-bit (i % 64)
 
+-- a word with all its digits
+abbrev pub fullWord : ℕ
+fullWord = 18446744073709551615
+
 abbrev pub fullSet : StateSet
-fullSet = four 18446744073709551615 18446744073709551615 18446744073709551615 18446744073709551615
+fullSet = four fullWord fullWord fullWord fullWord
 
 pub full-member : (i : ℕ) → member fullSet i ≡ ltb i 256
 full-member i = elim (decLt i 256) [
@@ -52,7 +56,7 @@ full-member i = elim (decLt i 256) [
 ]
   where
     ones : Bool → ℕ
-    ones t = cond t 18446744073709551615 0
+    ones t = cond t fullWord 0
 
     at : {t : Bool} → ltb (i / 64) 4 ≡ t → member fullSet i ≡ bit (ones t) (i % 64)
     at e =

@@ -9,6 +9,9 @@ ghost use Rattle.model.specs.Lists.{lowest};
 ghost use Rattle.state_set.specs.Member.{member, wordAt, stateFound};
 ghost use Rattle.state_set.specs.Rows.{setAt, Stored, Inserted};
 
+// A word of the set of all states.
+pub const FULL_WORD: u64 = 0xffff_ffff_ffff_ffff;
+
 pub struct StateSet {
     pub w0: u64,
     pub w1: u64,
@@ -25,10 +28,10 @@ impl StateSet {
     };
 
     pub const FULL: StateSet = StateSet {
-        w0: 0xffff_ffff_ffff_ffff,
-        w1: 0xffff_ffff_ffff_ffff,
-        w2: 0xffff_ffff_ffff_ffff,
-        w3: 0xffff_ffff_ffff_ffff,
+        w0: FULL_WORD,
+        w1: FULL_WORD,
+        w2: FULL_WORD,
+        w3: FULL_WORD,
     };
 }
 

@@ -12,9 +12,12 @@ ineffective-event-requires c κs = search needs
 
 returns : tie.Need-returns
 unfolding verdictRefusal tabled
-returns c ms post told passed moves excited =
+returns c =
     let b = c .before in
-    cover-refused _ (b .before .before .before .before .pre .0) ms _ post told passed moves _ (b .ineffective-event .ensures) _ _ (c .if1 .taken) refl
+    record {
+      judges = λ ms post told passed moves excited.
+          cover-refused _ (b .before .before .before .before .pre .0) ms _ post told passed moves _ (b .ineffective-event .ensures) _ _ (c .if1 .taken) refl;
+    }
 
 add-machines-requires : tie.Need-add-machines-requires
 add-machines-requires c κs = search needs
@@ -26,12 +29,15 @@ same-length : tie.Need-same-length
 same-length c = search needs
 
 returns-2 : tie.Need-returns-2
-returns-2 c ms post told passed moves excited =
+returns-2 c =
     let filled = c .before .before .before .before in
     let other = filled .before .before .before .before .before in
     let b = other .before in
-    cover-passed _ (b .before .before .before .before .pre .0) ms _ post told passed moves _ (b .ineffective-event .ensures) _ _ (other .if1 .left) excited
-    (filled .add-machines .ensures) (c .check-closed .ensures)
+    record {
+      judges = λ ms post told passed moves excited.
+          cover-passed _ (b .before .before .before .before .pre .0) ms _ post told passed moves _ (b .ineffective-event .ensures) _ _ (other .if1 .left) excited
+          (filled .add-machines .ensures) (c .check-closed .ensures);
+    }
 
 pub check-cover-spec : {M : Type 1} → statement M
 check-cover-spec =

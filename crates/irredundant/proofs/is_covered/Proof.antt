@@ -1,7 +1,7 @@
 -- `irredundant::is_covered` meets its contract: from what the calls gave. The laws are in `Covered`.
 use mathlib.Core.Logic.{⊎-elim}
 use borrow.Author.Needs.{needs}
-use Rattle.irredundant.proofs.Covered.{is-held, is-before, off-all, none-left, some-left}
+use Rattle.irredundant.proofs.Covered.{is-on-above, is-before, off-all, none-left, some-left}
 use Rattle.irredundant.proofs.is_covered.Statement.{statement}
 use Rattle.irredundant.proofs.is_covered.Tie as tie
 
@@ -53,7 +53,7 @@ returns-2 c =
     let b = a .before in
     none-left _ _ _ _ _ _ _ (b .load .result) (a .load2 .result) (m .meet .result) (x .load3 .result) (w .without .result) (c .before .before .lowest .result)
     (b .load .ensures) (a .load2 .ensures) (m .meet .ensures) (x .load3 .ensures) (w .without .ensures) (c .before .before .lowest .ensures)
-    (c .enum-told .given .1) (⊎-elim (λ v. is-before (v .1 .ensures) (v .2 .left)) (λ v. is-held (v .left)) (b .before .if1 .came))
+    (c .enum-told .given .1) (⊎-elim (λ v. is-before (v .1 .ensures) (v .2 .left)) (λ v. is-on-above (v .left)) (b .before .if1 .came))
 
 returns-3 : tie.Need-returns-3
 returns-3 c =

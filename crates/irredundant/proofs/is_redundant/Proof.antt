@@ -11,10 +11,10 @@ use Rattle.irredundant.proofs.is_redundant.Statement.{statement}
 use Rattle.irredundant.proofs.is_redundant.Tie as tie
 
 abbrev Inv-loop : tie.InvT-loop
-Inv-loop pre below above held excited others m events e₀ e = Upto (λ j. coveredWithout pre below above held excited m j ≡ true) events e
+Inv-loop pre below above onAbove excited others m events e₀ e = Upto (λ j. coveredWithout pre below above onAbove excited m j ≡ true) events e
 
 abbrev μ-loop : tie.MeasureT-loop
-μ-loop pre below above held excited others m events e₀ e = events - e
+μ-loop pre below above onAbove excited others m events e₀ e = events - e
 
 returns : tie.Need-returns Inv-loop μ-loop
 returns c = rw (no-others (c .if1 .taken))

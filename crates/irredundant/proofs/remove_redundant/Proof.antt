@@ -11,11 +11,11 @@ use Rattle.irredundant.proofs.remove_redundant.Statement.{statement}
 use Rattle.irredundant.proofs.remove_redundant.Tie as tie
 
 abbrev Inv-loop : tie.InvT-loop
-Inv-loop excited sets pre machines events below above₀ held₀ kept₀ size₀ left₀ above held kept size left =
-    Thinning excited sets pre machines events above held kept size left
+Inv-loop excited sets pre machines events below above₀ onAbove₀ kept₀ size₀ left₀ above onAbove kept size left =
+    Thinning excited sets pre machines events above onAbove kept size left
 
 abbrev μ-loop : tie.MeasureT-loop
-μ-loop excited sets pre machines events below above₀ held₀ kept₀ size₀ left₀ above held kept size left = left
+μ-loop excited sets pre machines events below above₀ onAbove₀ kept₀ size₀ left₀ above onAbove kept size left = left
 
 slice-aggregate-meet-below : tie.Need-slice-aggregate-meet-below Inv-loop μ-loop
 slice-aggregate-meet-below c = search needs

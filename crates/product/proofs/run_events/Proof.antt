@@ -1,7 +1,8 @@
 -- `product::run_events` meets its contract: 14, or the run. The laws are in `Unknown`.
 use native.Mathlib.Omega.{arith}
-use mathlib.Core.Path.{_∙_, sym}
+use mathlib.Core.Path.{_∙_, sym, ap}
 use borrow.Author.Needs.{needs}
+use Rattle.model.specs.Services.{ranAnswer}
 use Rattle.product.proofs.Unknown.{all-known, runs-known, runs-unknown}
 use Rattle.product.proofs.run_events.Statement.{statement}
 use Rattle.product.proofs.run_events.Tie as tie
@@ -13,7 +14,9 @@ refused-requires : tie.Need-refused-requires
 refused-requires c κs = search needs
 
 returns : tie.Need-returns
-returns c ts ms qs r d = c .refused .ensures ∙ runs-unknown _ _ (c .before .before .«unknown-event» .ensures) ts ms qs d (c .before .if1 .taken)
+returns c ts ms qs r d =
+    let searched = c .before .before .«unknown-event» .ensures in
+    c .refused .ensures ∙ ap ranAnswer (sym (runs-unknown _ _ searched ts ms qs d (c .before .if1 .taken)))
 
 run-from-requires : tie.Need-run-from-requires
 run-from-requires c κs =
@@ -24,7 +27,7 @@ returns-2 : tie.Need-returns-2
 returns-2 c ts ms qs r d =
     let searched = c .before .before .«unknown-event» .ensures in
     let known = c .before .if1 .left in
-    c .«run-from» .ensures ts ms qs r (λ i l. rw (sym d) (all-known _ _ searched known i l)) ∙ runs-known _ _ searched ts ms qs d known
+    c .«run-from» .ensures ts ms qs r (rw (sym d) (all-known _ _ searched known)) ∙ ap ranAnswer (sym (runs-known _ _ searched ts ms qs d known))
 
 pub run-events-spec : {M : Type 1} → statement M
 run-events-spec =

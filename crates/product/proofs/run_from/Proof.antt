@@ -30,9 +30,11 @@ step-requires c κs =
 
 returns : tie.Need-returns Inv-loop μ-loop
 returns c =
-    let b = c .before .before .before .before in
-    run-blocked (b .before .before .before .before .before .pre .0) (b .before .loop .inv) (b .loop-test .taken) (c .before .before .wide .ensures .0)
-    (c .before .step .ensures) (c .if1 .taken)
+    let stepped = c .before .before in
+    let read = stepped .before in
+    let turn = read .before .before in
+    let few = turn .before .before .before .before .before .pre .0 in
+    run-blocked few (turn .before .loop .inv) (turn .loop-test .taken) (read .wide .ensures .0) (stepped .step .ensures) (c .if1 .taken)
 
 add-ran : tie.Need-add-ran Inv-loop μ-loop
 add-ran c = search needs
@@ -42,9 +44,11 @@ loop-less c = search needs
 
 loop-again : tie.Need-loop-again Inv-loop μ-loop
 loop-again c =
-    let b = c .before .before .before .before .before in
-    run-more (b .before .before .before .before .before .pre .0) (b .before .loop .inv) (b .loop-test .taken) (c .before .before .before .wide .ensures .0)
-    (c .before .before .step .ensures) (c .before .if1 .left)
+    let stepped = c .before .before in
+    let read = stepped .before in
+    let turn = read .before .before in
+    let few = turn .before .before .before .before .before .pre .0 in
+    run-more few (turn .before .loop .inv) (turn .loop-test .taken) (read .wide .ensures .0) (stepped .step .ensures) (c .if1 .left)
 
 returns-2 : tie.Need-returns-2 Inv-loop μ-loop
 returns-2 c = run-end (c .before .before .before .before .before .pre .0) (c .before .loop .inv) (c .loop-test .left)

@@ -33,7 +33,9 @@ enum-told-2 c = search needs
 
 check-as-far-as-12-requires : tie.Need-check-as-far-as-12-requires
 check-as-far-as-12-requires c κs =
-    let fresh = c .before .before .before .before .before .before .before .before .before .before .before .before .before .pre in (reading (c .before .before .before .before .before) .bounds, fresh .moves, fresh .excitations, fresh .places _ _)
+    let read = c .before .before .before .before .before in
+    let fresh = read .before .before .before .before .before .before .before .before .pre in
+    (reading read .bounds, fresh .moves, fresh .excitations, fresh .places _ _)
 
 same-length : tie.Need-same-length
 same-length c = search needs
@@ -48,7 +50,9 @@ same-length-4 : tie.Need-same-length-4
 same-length-4 c = search needs
 
 returns-2 : tie.Need-returns-2
-returns-2 c = let r = c .before .before .before .before .before .before .before .before .check-as-far-as-12 in judged-12 (reading (c .before .before .before .before .before .before .before .before .before .before .before .before .before .before)) _ (r .ensures .0) (r .ensures .1)
+returns-2 c =
+    let checked = c .before .before .before .before .before .before .before .before in
+    judged-12 (reading (checked .before .before .before .before .before .before)) _ (checked .check-as-far-as-12 .ensures)
 
 pub read-as-far-as-12-spec : {M : Type 1} → statement M
 read-as-far-as-12-spec =

@@ -1,17 +1,10 @@
 -- `splitter::run` meets its contract: both answers are laws of `Running` at what the calls have said.
 use native.Mathlib.Omega.{arith}
 use borrow.Author.Needs.{needs}
-use denote.Ref.{now}
-use Rattle.checker.proofs.Verdicts.{lets-pass}
-use Rattle.splitter.specs.Stages.{Judged}
-use Rattle.splitter.proofs.Stages.{fresh}
+use Rattle.splitter.proofs.Stages.{fresh, refused-text, past-text}
 use Rattle.splitter.proofs.Running.{run-refused, ran}
 use Rattle.splitter.proofs.run.Statement.{statement}
 use Rattle.splitter.proofs.run.Tie as tie
-
--- past 12
-past : (c : tie.After-enum-told) → Judged (now (c .before .before .before .before .before .before .before .before .before .before .before .before .before .args .text)) (c .before .before .before .before .before .before .read-as-far-as-12 .result .tables) (c .before .before .before .before .before .before .read-as-far-as-12 .last .1 .0) (c .before .before .before .before .before .before .read-as-far-as-12 .last .1 .1 .0) (c .before .before .before .before .before .before .read-as-far-as-12 .last .1 .1 .1 .1 .0) (c .before .before .before .before .before .before .read-as-far-as-12 .last .1 .1 .1 .0)
-past c = c .before .before .before .before .before .before .read-as-far-as-12 .ensures .judged (lets-pass (c .enum-told .given .1))
 
 slice-aggregate-read-as-far-as-12 : tie.Need-slice-aggregate-read-as-far-as-12
 slice-aggregate-read-as-far-as-12 c = search needs
@@ -35,13 +28,15 @@ refused-requires : tie.Need-refused-requires
 refused-requires c κs = search needs
 
 returns : tie.Need-returns
-returns c = run-refused _ _ (c .before .before .before .before .before .before .before .before .read-as-far-as-12 .ensures .verdict) (c .before .before .verdict .given .1) (c .refused .ensures)
+returns c = run-refused _ _ _ (refused-text (c .before .before .before .before .before .before .before .before .read-as-far-as-12 .ensures) (c .before .before .verdict .given .1)) (c .refused .ensures)
 
 enum-told : tie.Need-enum-told
 enum-told c = search needs
 
 places-of-requires : tie.Need-places-of-requires
-places-of-requires c κs = let b = past (c .before .before .before .before) .held .bounds in (search needs, omega (arith, b .initial, b .states), b .machines)
+places-of-requires c κs =
+    let b = (past-text (c .before .before .before .before .before .before .before .before .before .before .read-as-far-as-12 .ensures) (c .before .before .before .before .enum-told .given .1)) .held .bounds in
+    (search needs, omega (arith, b .initial, b .states), b .machines)
 
 slice-aggregate-run-events : tie.Need-slice-aggregate-run-events
 slice-aggregate-run-events c = search needs
@@ -50,10 +45,30 @@ slice-aggregate-run-events-2 : tie.Need-slice-aggregate-run-events-2
 slice-aggregate-run-events-2 c = search needs
 
 run-events-requires : tie.Need-run-events-requires
-run-events-requires c κs = let j = past (c .before .before .before .before .before .before .before) in (j .held .bounds .machines, j .held .bounds .events, j .cover .moves .rows)
+run-events-requires c κs =
+    let j = past-text (c .before .before .before .before .before .before .before .before .before .before .before .before .before .read-as-far-as-12 .ensures) (c .before .before .before .before .before .before .before .enum-told .given .1) in
+    (j .held .bounds .machines, j .held .bounds .events, j .cover .moves .rows)
 
 returns-2 : tie.Need-returns-2
-returns-2 c = ran (past (c .before .before .before .before .before .before .before .before)) _ _ (c .before .before .before .places-of .ensures) (c .run-events .ensures)
+returns-2 c =
+    let j = past-text (c .before .before .before .before .before .before .before .before .before .before .before .before .before .before .read-as-far-as-12 .ensures) (c .before .before .before .before .before .before .before .before .enum-told .given .1) in
+    ran j _ _ (c .before .before .before .places-of .ensures) (c .run-events .ensures)
 
 pub run-spec : {M : Type 1} → statement M
-run-spec = tie.close (tie.spec slice-aggregate-read-as-far-as-12 slice-aggregate-read-as-far-as-12-2 slice-aggregate-read-as-far-as-12-3 slice-aggregate-read-as-far-as-12-4 read-as-far-as-12-requires enum-known-verdict refused-requires returns enum-told places-of-requires slice-aggregate-run-events slice-aggregate-run-events-2 run-events-requires returns-2)
+run-spec =
+    tie.close
+    (tie.spec
+    slice-aggregate-read-as-far-as-12
+    slice-aggregate-read-as-far-as-12-2
+    slice-aggregate-read-as-far-as-12-3
+    slice-aggregate-read-as-far-as-12-4
+    read-as-far-as-12-requires
+    enum-known-verdict
+    refused-requires
+    returns
+    enum-told
+    places-of-requires
+    slice-aggregate-run-events
+    slice-aggregate-run-events-2
+    run-events-requires
+    returns-2)
