@@ -20,9 +20,10 @@ use Rattle.reader.proofs.Telling.{told-transitions}
 use Rattle.listing.specs.Records.{firstRecords}
 use Rattle.splitter.specs.declared.Answer.the-variants as A
 use Rattle.splitter.specs.Answers.{answered}
-use Rattle.splitter.specs.Stages.{Held, writtenBy, Lists}
+use Rattle.stages.specs.Stages.{Held}
+use Rattle.splitter.specs.Listing.{writtenBy, Lists}
 use Rattle.splitter.proofs.Lending.{lent-all, lent-none}
-use Rattle.splitter.proofs.Checking.{refused-as}
+use Rattle.stages.proofs.Checking.{refused-as}
 
 -- refused by 1 to 7
 pub lists-refusal : {s : List ℕ} {room : ℕ} {numbers : List ℕ} {r : Verdict} {why : D.Refusal} → verdictRefusal r ≡ refusalOf (asFarAs7 s)

@@ -10,7 +10,7 @@ use Rattle.model.proofs.ListLaws.{map-append, map-drop}
 use Rattle.listing.specs.Records.{firstRecords, filled}
 use Rattle.splitter.specs.declared.Answer.{Answer}
 use Rattle.splitter.specs.Answers.{answered}
-use Rattle.splitter.specs.Stages.{writtenBy, Lists}
+use Rattle.splitter.specs.Listing.{writtenBy, Lists}
 
 pub answers : (s numbers : List ℕ) (ys zs : List Transition) (r : Answer) → Lists s (length ys) numbers r → zs ≡ filled numbers (writtenBy r) ys
     → (answered r ≡ steps s (map recorded ys) .answer) × (map recorded zs ≡ steps s (map recorded ys) .left)

@@ -22,8 +22,8 @@ use Rattle.reader.proofs.Telling.{told-place, told-events, told-initial}
 use Rattle.checker.specs.Order.{refusalTo12}
 use Rattle.product.specs.Stepping.{Standing, RunsEvents}
 use Rattle.product.proofs.Places.{stands-padded}
-use Rattle.splitter.specs.Stages.{Judged}
-use Rattle.splitter.proofs.Stages.{past-12, machines-pass}
+use Rattle.stages.specs.Stages.{Judged}
+use Rattle.stages.proofs.Stages.{past-12, machines-pass}
 
 pub run-refused : (s es : List ℕ) (why : D.Refusal) {a : Services.RunAnswer} → asFarAs12 s ≡ refused (tabled why)
     → a ≡ Services.ranAnswer (refused (tabled why)) → a ≡ Services.run s es

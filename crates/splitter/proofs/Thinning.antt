@@ -14,8 +14,8 @@ use Rattle.irredundant.specs.declared.Kept.{Kept}
 use Rattle.irredundant.specs.Kept.{Thins}
 use Rattle.splitter.specs.declared.Thinned.the-variants as T
 use Rattle.splitter.specs.Answers.{thinned, numberedSet}
-use Rattle.splitter.specs.Stages.{Judged}
-use Rattle.splitter.proofs.Stages.{past-12}
+use Rattle.stages.specs.Stages.{Judged}
+use Rattle.stages.proofs.Stages.{past-12}
 
 pub thin-refused : (s : List ℕ) (why : D.Refusal) → asFarAs12 s ≡ refused (tabled why) → thinned (T.Refused why) ≡ numberedSet (Services.thin s)
 unfolding Services.thin thinned numberedSet

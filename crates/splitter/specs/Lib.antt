@@ -1,3 +1,3 @@
--- `Answers`: the calls' answers in the model's words. `Stages`: what the code knows between its calls.
+-- `Answers`: the calls' answers in the model's words. `Listing`: what Steps answers, and the numbers of the records that it writes.
 pub mod Answers
-pub mod Stages
+pub mod Listing

@@ -7,8 +7,7 @@ ghost use Rattle.model.specs.Services as Services;
 ghost use Rattle.reader.specs.Tables.{verdictRefusal};
 ghost use Rattle.product.specs.Answers.{runAnswer};
 ghost use Rattle.splitter.specs.Answers.{answered, numbered, PartOf, thinned, numberedSet};
-ghost use Rattle.splitter.specs.Stages.{ReadAsFarAs7, Fresh, ReadAsFarAs12, writtenBy, Lists, NoPart, Named};
-use checker::check_as_far_as_12;
+ghost use Rattle.splitter.specs.Listing.{writtenBy, Lists};
 use closure::PLACE_WORDS;
 use irredundant::remove_redundant;
 use listing::NUMBERS;
@@ -16,19 +15,19 @@ use listing::fill;
 use listing::list_transitions;
 use model::Refusal;
 use model::Transition;
+use naming::find_name;
 use product::RunAnswer;
 use product::places_of;
 use product::refused;
 use product::run_events;
-use reader::Reading;
 use reader::Verdict;
-use reader::read;
 use regions::MOVES;
 use regions::NOT_ON;
 use sheet::sheet_len;
 use sheet::write_sheet;
+use stages::read_as_far_as_7;
+use stages::read_as_far_as_12;
 use transition_system::EXCITATION_WORDS;
-use transition_system::check_transition_system;
 
 // The answer of a call that writes into a lent list.
 pub enum Answer {
@@ -75,30 +74,6 @@ pub fn numbers(why: Refusal) -> RefusalNumbers
     }
 }
 
-// The text's rows, and its refusal as far as 12; passed, the other rows have its machines' moves and places and the excitation sets.
-fn read_as_far_as_12(
-    text: &[u8],
-    pre: &mut [u8],
-    post: &mut [u8],
-    excited: &mut [u64],
-    sets: &mut [u64],
-) -> Reading
-    requires { ⌜ Fresh (now pre) (now post) (now excited) (now sets) ⌝ }
-    ensures { λ r. ⌜ ReadAsFarAs12 (now (text .entry)) r (now (pre .exit)) (now (post .exit)) (now (sets .exit)) (now (excited .exit)) ⌝ }
-{
-    let reading = read(text);
-    let form = reading.verdict;
-    if let Verdict::Refused(_) = form {
-        return reading;
-    }
-    let tables = reading.tables;
-    let judged = check_as_far_as_12(tables, pre, post, excited, sets);
-    Reading {
-        verdict: judged,
-        tables,
-    }
-}
-
 // Check and sheet: the sheet into the first bytes of the lent buffer, or the refusal and no byte changed.
 pub fn check(text: &[u8], out: &mut [u8]) -> Answer
     ensures { λ r. ⌜ answered r ≡ Services.check (now (text .entry)) (now (out .entry)) .answer ⌝ }
@@ -121,21 +96,6 @@ pub fn check(text: &[u8], out: &mut [u8]) -> Answer
     }
     write_sheet(text, tables, &pre, &post, out);
     Answer::Accepted { size }
-}
-
-// The text's rows, and its refusal as far as 7.
-fn read_as_far_as_7(text: &[u8]) -> Reading
-    ensures { λ r. ⌜ ReadAsFarAs7 (now (text .entry)) r ⌝ }
-{
-    let reading = read(text);
-    let form = reading.verdict;
-    if let Verdict::Refused(_) = form {
-        return reading;
-    }
-    let tables = reading.tables;
-    let mut excited = [0u64; EXCITATION_WORDS];
-    let verdict = check_transition_system(tables, &mut excited);
-    Reading { verdict, tables }
 }
 
 // What Steps answers where `room` records are lent, and the transitions' numbers if they fit.
@@ -177,45 +137,6 @@ pub fn steps(text: &[u8], out: &mut [Transition]) -> Answer
     let count = written(answer);
     fill(out, &row, count);
     answer
-}
-
-// Where a name stands in the text, or the refusal and the empty part at the text's beginning.
-struct NamePart {
-    verdict: Verdict,
-    from: usize,
-    end: usize,
-}
-
-fn no_part(why: Refusal) -> NamePart
-    ensures { λ r. ⌜ NoPart why r ⌝ }
-{
-    NamePart {
-        verdict: Verdict::Refused(why),
-        from: 0,
-        end: 0,
-    }
-}
-
-fn find_name(text: &[u8], event: usize) -> NamePart
-    ensures { λ r. ⌜ Named (now (text .entry)) event r ⌝ }
-{
-    let reading = read_as_far_as_7(text);
-    let verdict = reading.verdict;
-    if let Verdict::Refused(why) = verdict {
-        return no_part(why);
-    }
-    let tables = reading.tables;
-    if event < tables.events {
-        let from = tables.name_at[event];
-        let end = from + tables.name_len[event];
-        NamePart {
-            verdict: Verdict::Passed,
-            from,
-            end,
-        }
-    } else {
-        no_part(Refusal::UnknownEvent { position: 0 })
-    }
 }
 
 // Name: the event's name as the caller's own bytes, or the empty part at the text's beginning; `name_refusal` then says why.

@@ -1,4 +1,4 @@
--- `splitter::check` meets its contract: each answer is a law of `Stages` at what the calls have said.
+-- `splitter::check` meets its contract: each answer is a law of `Checking` at what the calls have said.
 use Prim.Native.Nat.{ℕ}
 use mathlib.Core.Path.{_≡_}
 use mathlib.Core.List.{List}
@@ -7,7 +7,8 @@ use denote.Ref.{now}
 use lib.ListN.{length}
 use Rattle.reader.specs.declared.Tables.{Tables}
 use Rattle.sheet.specs.Written.{rowSheet}
-use Rattle.splitter.proofs.Stages.{fresh, refused-text, past-text, check-refused, refused-buffer, written}
+use Rattle.stages.proofs.Stages.{fresh, refused-text, past-text}
+use Rattle.splitter.proofs.Checking.{check-refused, refused-buffer, written}
 use Rattle.splitter.proofs.check.Statement.{statement}
 use Rattle.splitter.proofs.check.Tie as tie
 

@@ -6,7 +6,7 @@ use borrow.Author.Needs.{needs}
 use denote.Ref.{now}
 use Rattle.model.specs.Services.{asFarAs7}
 use Rattle.checker.proofs.Verdicts.{lets-pass}
-use Rattle.splitter.specs.Stages.{Held}
+use Rattle.stages.specs.Stages.{Held}
 use Rattle.splitter.proofs.Listing.{lists-refusal, lists-too-few, lists-all}
 use Rattle.splitter.proofs.list.Statement.{statement}
 use Rattle.splitter.proofs.list.Tie as tie

@@ -1,7 +1,7 @@
 -- `splitter::run` meets its contract: both answers are laws of `Running` at what the calls have said.
 use native.Mathlib.Omega.{arith}
 use borrow.Author.Needs.{needs}
-use Rattle.splitter.proofs.Stages.{fresh, refused-text, past-text}
+use Rattle.stages.proofs.Stages.{fresh, refused-text, past-text}
 use Rattle.splitter.proofs.Running.{run-refused, ran}
 use Rattle.splitter.proofs.run.Statement.{statement}
 use Rattle.splitter.proofs.run.Tie as tie

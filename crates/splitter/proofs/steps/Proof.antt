@@ -56,7 +56,7 @@ use Rattle.listing.proofs.fill as fill
 use Rattle.listing.proofs.fill.Symbol as fill-def
 use Rattle.listing.proofs.fill.Symbol.{name as #listing·fill}
 use Rattle.listing.proofs.fill.Met as fill-thm
-use Rattle.splitter.specs.Stages.{writtenBy, Lists}
+use Rattle.splitter.specs.Listing.{writtenBy, Lists}
 use Rattle.splitter.specs.declared.Answer.{Answer}
 use Rattle.splitter.proofs.Answer as N
 use Rattle.splitter.proofs.Answer.Laws as N′

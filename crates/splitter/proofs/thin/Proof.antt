@@ -1,6 +1,6 @@
 -- `splitter::thin` meets its contract: both answers are laws of `Thinning` at what the calls have said.
 use borrow.Author.Needs.{needs}
-use Rattle.splitter.proofs.Stages.{fresh, refused-text, past-text}
+use Rattle.stages.proofs.Stages.{fresh, refused-text, past-text}
 use Rattle.splitter.proofs.Thinning.{thin-refused, kept}
 use Rattle.splitter.proofs.thin.Statement.{statement}
 use Rattle.splitter.proofs.thin.Tie as tie

@@ -1,7 +1,7 @@
 -- `splitter::written` meets its contract: each variant says how many entries are written.
 use mathlib.Core.Path.{sym, ap}
 use borrow.Author.Needs.{needs}
-use Rattle.splitter.specs.Stages.{writtenBy}
+use Rattle.splitter.specs.Listing.{writtenBy}
 use Rattle.splitter.proofs.written.Statement.{statement}
 use Rattle.splitter.proofs.written.Tie as tie
 

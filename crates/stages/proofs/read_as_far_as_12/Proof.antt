@@ -1,13 +1,13 @@
--- `splitter::read_as_far_as_12` meets its contract: both answers are laws of `Stages` at what the calls have said.
+-- `stages::read_as_far_as_12` meets its contract: both answers are laws of `Stages` at what the calls have said.
 use Prim.Native.Nat.{ℕ}
 use mathlib.Core.List.{List}
 use borrow.Author.Needs.{needs}
 use denote.Ref.{now}
 use Rattle.model.specs.Text.{read}
-use Rattle.splitter.specs.Stages.{Held}
-use Rattle.splitter.proofs.Stages.{held, refused-to-3-12, judged-12}
-use Rattle.splitter.proofs.read_as_far_as_12.Statement.{statement}
-use Rattle.splitter.proofs.read_as_far_as_12.Tie as tie
+use Rattle.stages.specs.Stages.{Held}
+use Rattle.stages.proofs.Stages.{held, refused-to-3-12, judged-12}
+use Rattle.stages.proofs.read_as_far_as_12.Statement.{statement}
+use Rattle.stages.proofs.read_as_far_as_12.Tie as tie
 
 -- the text
 abbrev bytes : tie.After-enum-told2 → List ℕ

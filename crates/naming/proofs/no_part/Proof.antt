@@ -1,8 +1,8 @@
--- `splitter::no_part` meets its contract: the part is the empty one at the text's beginning.
+-- `naming::no_part` meets its contract: the part is the empty one at the text's beginning.
 use mathlib.Core.Path.{refl}
 use Rattle.reader.specs.Tables.{verdictRefusal}
-use Rattle.splitter.proofs.no_part.Statement.{statement}
-use Rattle.splitter.proofs.no_part.Tie as tie
+use Rattle.naming.proofs.no_part.Statement.{statement}
+use Rattle.naming.proofs.no_part.Tie as tie
 
 returns : tie.Need-returns
 unfolding verdictRefusal

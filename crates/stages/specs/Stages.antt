@@ -1,15 +1,11 @@
--- What the code knows between its calls.
-use Prim.Native.Nat.{ℕ, _+_, _*_, _≤_}
+-- What is known of a text once it is read, once it is past 7, and once it is past 12.
+use Prim.Native.Nat.{ℕ}
 use mathlib.Core.Path.{_≡_}
-use mathlib.Core.List.{List, [], _++_, map}
-use mathlib.Core.Option.{none, some}
-use lib.ListN.{length, drop}
-use Rattle.model.specs.declared.Refusal as D
+use mathlib.Core.List.{List, []}
+use mathlib.Core.Option.{none}
 use Rattle.model.specs.Refusal.{Checked, passed, refusalOf}
-use Rattle.model.specs.Cases.{tabled, recorded}
-use Rattle.model.specs.TransitionSystem.{Transition}
 use Rattle.model.specs.Text.{Input, system, read}
-use Rattle.model.specs.Services.{asFarAs7, asFarAs12, steps, name, handedBack, nameRefusal}
+use Rattle.model.specs.Services.{asFarAs7, asFarAs12}
 use Rattle.reader.specs.declared.Tables.{Tables}
 use Rattle.reader.specs.declared.Reading.{Reading}
 use Rattle.reader.specs.Tables.{verdictRefusal}
@@ -19,11 +15,6 @@ use Rattle.transition_system.specs.Sets.{Excitations}
 use Rattle.regions.specs.Moves.{MoveRows}
 use Rattle.closure.specs.Covers.{PlaceSets, CoverTold}
 use Rattle.checker.specs.Order.{refusalTo12}
-use Rattle.listing.specs.Records.{firstRecords}
-use Rattle.splitter.specs.declared.Answer.{Answer}
-use Rattle.splitter.specs.declared.Answer.the-variants.{Refused, Accepted}
-use Rattle.splitter.specs.declared.NamePart.{NamePart}
-use Rattle.splitter.specs.Answers.{answered}
 
 -- the text has passed this check, and the rows hold its value
 pub record Held (checked : Checked Input) (s : List ℕ) (p : Tables) : Type 0 where
@@ -53,29 +44,3 @@ pub record Judged (s : List ℕ) (p : Tables) (pre post sets excited : List ℕ)
 pub record ReadAsFarAs12 (s : List ℕ) (r : Reading) (pre post sets excited : List ℕ) : Type 0 where
   pub verdict : verdictRefusal (r .verdict) ≡ refusalOf (asFarAs12 s)
   pub judged : verdictRefusal (r .verdict) ≡ none → Judged s (r .tables) pre post sets excited
-
--- how many entries an answer says were written
-unfoldable pub writtenBy : Answer → ℕ
-writtenBy (Refused why) = 0
-writtenBy (Accepted size) = size
-
--- Steps is answered by r if `room` records are lent, and the numbers are those of the records to be written
-pub record Lists (s : List ℕ) (room : ℕ) (numbers : List ℕ) (r : Answer) : Type 0 where
-  pub answer : (out : List Transition) → length out ≡ room → answered r ≡ steps s out .answer
-  pub left : (out : List Transition) → length out ≡ room
-      → map recorded (firstRecords numbers (writtenBy r)) ++ drop (writtenBy r) out ≡ steps s out .left
-  pub fits : writtenBy r ≤ room
-  pub inside : 3 * writtenBy r ≤ length numbers
-
--- r has this refusal, and the empty part at the text's beginning
-pub record NoPart (why : D.Refusal) (r : NamePart) : Type 0 where
-  pub verdict : verdictRefusal (r .verdict) ≡ some (tabled why)
-  pub begins : r .from ≡ 0
-  pub ends : r .end ≡ 0
-
--- r has the refusal of Name, and the part that it hands back
-pub record Named (s : List ℕ) (e : ℕ) (r : NamePart) : Type 0 where
-  pub verdict : verdictRefusal (r .verdict) ≡ nameRefusal s e
-  pub begins : r .from ≡ handedBack (name s e) .from
-  pub ends : r .end ≡ handedBack (name s e) .from + handedBack (name s e) .size
-  pub inside : r .end ≤ length s

@@ -1,18 +1,15 @@
--- What the code knows of a text once it is read, once it is past 7, and once it is past 12; and that each of its answers is the model's.
-use Prim.Native.Nat.{ℕ, _<_, _≤_}
+-- What the code knows of a text once it is read, once it is past 7, and once it is past 12.
+use Prim.Native.Nat.{ℕ}
 use mathlib.Core.Path.{_≡_, refl, ap, sym, subst, _∙_}
 use mathlib.Core.List.{List}
 use mathlib.Core.Option.{none}
-use lib.ListN.{length, replicate}
-use lib.Seq.{sets}
+use lib.ListN.{replicate}
 use Rattle.model.specs.declared.Refusal as D
-use Rattle.model.specs.declared.Refusal.the-variants.{BufferTooShort}
 use Rattle.model.specs.Cases.{tabled}
 use Rattle.model.specs.Refusal.{refused, passed, refusalOf}
 use Rattle.model.specs.TransitionSystem.{TransitionSystem, systemRefusal}
 use Rattle.model.specs.Machine.{Decomposition, machinesRefusal}
 use Rattle.model.specs.Text.{Input, system, read}
-use Rattle.model.specs.Sheet.{sheet}
 use Rattle.model.specs.Services.{asFarAs7, asFarAs12}
 use Rattle.model.proofs.Laws.{orElse-none}
 use Rattle.reader.specs.declared.Verdict.{Verdict}
@@ -21,17 +18,13 @@ use Rattle.reader.specs.declared.Tables.{Tables}
 use Rattle.reader.specs.declared.Reading.{Reading}
 use Rattle.reader.specs.Tables.{verdictRefusal, tablesOf}
 use Rattle.reader.specs.Told.{systemOf, MachinesTold, Told}
-use Rattle.reader.proofs.Bounds.{limits, bounded, names-inside}
+use Rattle.reader.proofs.Bounds.{bounded, names-inside}
 use Rattle.closure.specs.Covers.{CoverTold}
 use Rattle.closure.proofs.Filling.{no-machines}
 use Rattle.checker.specs.Order.{refusalTo12, CheckedTo12}
 use Rattle.checker.proofs.Verdicts.{refuses, lets-pass, no-excitations}
-use Rattle.sheet.specs.Written.{rowSheet}
-use Rattle.sheet.proofs.Told.{told-sheet, lent}
-use Rattle.splitter.specs.declared.Answer.the-variants as A
-use Rattle.splitter.specs.Answers.{answered}
-use Rattle.splitter.specs.Stages.{Held, ReadAsFarAs7, Fresh, Judged, ReadAsFarAs12}
-use Rattle.splitter.proofs.Checking.{was-passed, refused-as, unread-7, refusal-7, passed-7, unread-12, refusal-12, passed-12, Gives, turned-down, too-short, accepted}
+use Rattle.stages.specs.Stages.{Held, ReadAsFarAs7, Fresh, Judged, ReadAsFarAs12}
+use Rattle.stages.proofs.Checking.{was-passed, refused-as, unread-7, refusal-7, passed-7, unread-12, refusal-12, passed-12}
 
 -- ---- what the reader answers
 
@@ -118,28 +111,3 @@ module _ {s : List ℕ} {p : Tables} {pre post rows excited : List ℕ} (j : Jud
   pub machines-pass : machinesRefusal (system value) 0 (value .machines) ≡ none
   unfolding refusalTo12
   machines-pass = orElse-none _ _ (orElse-none _ _ (j .passes) .1) .0
-
--- ---- Check and sheet
-
-pub check-refused : (s out : List ℕ) (why : D.Refusal) → asFarAs12 s ≡ refused (tabled why) → Gives s out (answered (A.Refused why)) out
-unfolding answered
-check-refused s out why e = turned-down s out _ e
-
-module _ {s : List ℕ} {p : Tables} {pre post rows excited : List ℕ} (j : Judged s p pre post rows excited) where
-  sheet-told : rowSheet s p pre post ≡ sheet (value j)
-  sheet-told = told-sheet s (value j) p pre post (j .held .told) (j .cover .moves) (machines-pass j) (limits s (value j) (j .held .passes))
-
-  pub refused-buffer : (out : List ℕ) (size : ℕ) → size ≡ length (rowSheet s p pre post) → length out < size
-      → Gives s out (answered (A.Refused (BufferTooShort size))) out
-  unfolding answered tabled
-  refused-buffer out size e l =
-      let q = e ∙ ap length sheet-told in
-      rw q (too-short s out (value j) (past-12 j) (rw q at l))
-
-  pub written : (out left : List ℕ) (size : ℕ) → size ≡ length (rowSheet s p pre post) → size ≤ length out → left ≡ sets out 0 (rowSheet s p pre post)
-      → Gives s out (answered (A.Accepted size)) left
-  unfolding answered
-  written out left size e l w =
-      let q = e ∙ ap length sheet-told in
-      let fits = rw q at l in
-      rw (q, w, sheet-told, lent out (sheet (value j)) fits) (accepted s out (value j) (past-12 j) fits)

@@ -1,4 +1,4 @@
--- `splitter::find_name` meets its contract: each way out is a law of `Naming` at what the calls have said.
+-- `naming::find_name` meets its contract: each way out is a law of `Naming` at what the calls have said.
 use Prim.Native.Nat.{ℕ}
 use native.Mathlib.Omega.{arith}
 use mathlib.Core.List.{List}
@@ -6,10 +6,10 @@ use borrow.Author.Needs.{needs}
 use denote.Ref.{now}
 use Rattle.model.specs.Services.{asFarAs7}
 use Rattle.checker.proofs.Verdicts.{lets-pass}
-use Rattle.splitter.specs.Stages.{Held}
-use Rattle.splitter.proofs.Naming.{refused-text, unknown, inside-text, names-it}
-use Rattle.splitter.proofs.find_name.Statement.{statement}
-use Rattle.splitter.proofs.find_name.Tie as tie
+use Rattle.stages.specs.Stages.{Held}
+use Rattle.naming.proofs.Parts.{refused-text, unknown, inside-text, names-it}
+use Rattle.naming.proofs.find_name.Statement.{statement}
+use Rattle.naming.proofs.find_name.Tie as tie
 
 -- the text
 abbrev bytes : tie.After-enum-told → List ℕ

@@ -1,0 +1,4 @@
+-- The laws behind Name.
+
+-- Name, by its ways out
+pub mod Parts

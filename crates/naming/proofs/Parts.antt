@@ -1,0 +1,88 @@
+-- Name, by its ways out.
+use Prim.Native.Nat.{ℕ, _+_, _<_, _≤_}
+use native.Mathlib.Omega.{arith}
+use borrow.Author.Tests.{lt-ltb, le-ltb}
+use mathlib.Core.Path.{_≡_, ap, sym, _∙_}
+use mathlib.Core.List.{List, []}
+use lib.ListN.{length, getD}
+use Rattle.model.specs.declared.Refusal as D
+use Rattle.model.specs.declared.Refusal.the-variants.{UnknownEvent}
+use Rattle.model.specs.Cases.{tabled}
+use Rattle.model.specs.Refusal.{refused, passed, refusalOf}
+use Rattle.model.specs.Text.{Input}
+use Rattle.model.specs.Services.{asFarAs7, name, handedBack, nameRefusal}
+use Rattle.reader.specs.declared.Verdict.{Verdict}
+use Rattle.reader.specs.declared.Verdict.the-variants.{Refused, Passed}
+use Rattle.reader.specs.declared.Tables.{Tables}
+use Rattle.reader.specs.Tables.{verdictRefusal}
+use Rattle.reader.specs.Told.{entry, nameOf}
+use Rattle.reader.proofs.Telling.{told-events}
+use Rattle.sheet.proofs.Moving.{name-inside, length-name}
+use Rattle.stages.specs.Stages.{Held}
+use Rattle.stages.proofs.Checking.{refused-as}
+use Rattle.naming.specs.declared.NamePart.{NamePart}
+use Rattle.naming.specs.Parts.{NoPart, Named}
+
+module _ (s : List ℕ) (e : ℕ) {r : NamePart} where
+  -- Name is refused
+  names-none : (why : D.Refusal) → name s e ≡ refused (tabled why) → NoPart why r → Named s e r
+  unfolding nameRefusal handedBack
+  names-none why q n =
+      record {
+        verdict = n .verdict ∙ sym (ap refusalOf q);
+        begins = rw q (n .begins);
+        ends = rw q (n .ends);
+        inside = omega (arith, n .ends);
+      }
+
+  -- the text is refused
+  pub refused-text : {v : Verdict} {why : D.Refusal} → verdictRefusal v ≡ refusalOf (asFarAs7 s) → v ≡ Refused why → NoPart why r → Named s e r
+  unfolding name
+  refused-text {why = why} h q n =
+      let z : asFarAs7 s ≡ refused (tabled why) = refused-as h q in
+      names-none why (rw z) n
+
+-- the text is past 7
+module _ {s : List ℕ} {p : Tables} (h : Held (asFarAs7 s) s p) (e : ℕ) where
+  abbrev value : Input
+  value = h .value
+
+  -- the rows count the value's events
+  counted : p .events ≡ length (value .names)
+  counted = told-events (h .told)
+
+  -- the event is not declared
+  pub unknown : {r : NamePart} → p .events ≤ e → NoPart (UnknownEvent 0) r → Named s e r
+  unfolding name tabled
+  unknown l n = names-none s e (UnknownEvent 0) (rw (h .passes, le-ltb e (length (value .names)) (rw counted at l))) n
+
+  -- the event is declared
+  module _ (l : e < p .events) where
+    abbrev from : ℕ
+    from = entry (p .«name_at») e
+
+    abbrev size : ℕ
+    size = entry (p .«name_len») e
+
+    -- its name lies in the text
+    pub inside-text : from + size ≤ length s
+    inside-text = name-inside s (p .«name_at») (p .«name_len») (h .names) e l
+
+    -- the value has it too
+    known : e < length (value .names)
+    known = rw counted at l
+
+    -- the row has its length
+    name-size : size ≡ length (getD (value .names) e [])
+    unfolding nameOf
+    name-size = sym (length-name s (p .«name_at») (p .«name_len») (p .events) e (h .names) l) ∙ ap length (h .told .name e known)
+
+    -- the model's answer
+    name-is : name s e ≡ passed (record { from = from; size = size })
+    unfolding name
+    name-is = rw (h .passes, lt-ltb e (length (value .names)) known, h .told .name-place e known, name-size)
+
+    -- the code's answer
+    pub names-it : Named s e (record { verdict = Passed; from = from; end = from + size })
+    unfolding nameRefusal handedBack verdictRefusal
+    names-it = record { verdict = rw name-is; begins = rw name-is; ends = rw name-is; inside = inside-text }

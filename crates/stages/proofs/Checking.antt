@@ -1,0 +1,85 @@
+-- The checks as far as 7 and 12 in the model's words, by what the code finds out on its way: whether the text is read, and what 4 to 12 say of its value.
+use Prim.Native.Nat.{ℕ}
+use mathlib.Core.Path.{_≡_, refl, ap, sym, _∙_}
+use mathlib.Core.List.{List}
+use mathlib.Core.Option.{Option, none, some, Option·some-ne-none, Option·some-injective, orElse}
+use Rattle.model.specs.declared.Refusal as D
+use Rattle.model.specs.Cases.{tabled}
+use Rattle.model.specs.Refusal.{Refusal, Checked, refused, passed, unless, refusalOf, _>>=_, _>>_}
+use Rattle.model.specs.TransitionSystem.{systemRefusal}
+use Rattle.model.specs.Machine.{machinesRefusal, coverRefusal}
+use Rattle.model.specs.Text.{Input, system, read}
+use Rattle.model.specs.Services.{asFarAs7, asFarAs10, asFarAs12}
+use Rattle.reader.specs.declared.Verdict.{Verdict}
+use Rattle.reader.specs.declared.Verdict.the-variants.{Refused}
+use Rattle.reader.specs.Tables.{verdictRefusal}
+use Rattle.checker.specs.Order.{refusalTo12}
+
+-- what passed, if nothing is refused
+pub was-passed : {A : Type 0} (c : Checked A) → refusalOf c ≡ none → (a : A) × (c ≡ passed a)
+was-passed (refused r) e = absurd (Option·some-ne-none r e)
+was-passed (passed a) e = (a, refl)
+
+was-refused : {A : Type 0} (c : Checked A) (r : Refusal) → refusalOf c ≡ some r → c ≡ refused r
+was-refused (refused q) r e = ap refused (Option·some-injective q r e)
+was-refused (passed a) r e = absurd (Option·some-ne-none r (sym e))
+
+-- what a verdict refuses is refused
+pub refused-as : {A : Type 0} {c : Checked A} {r : Verdict} {why : D.Refusal} → verdictRefusal r ≡ refusalOf c → r ≡ Refused why → c ≡ refused (tabled why)
+unfolding verdictRefusal
+refused-as {c = c} h e = was-refused c _ (sym h ∙ ap verdictRefusal e)
+
+-- three checks, one after the other, are one
+joined : (v : Input) (a : Option Refusal) (f g : Input → Option Refusal)
+    → (((unless a >> passed v) >>= λ w. unless (f w) >> passed w) >>= λ w. unless (g w) >> passed w) ≡ (unless (orElse a (orElse (f v) (g v))) >> passed v)
+unfolding orElse
+joined v (some r) f g = refl
+joined v none f g = next (f v)
+  where
+    next : (b : Option Refusal) → ((unless b >> passed v) >>= λ w. unless (g w) >> passed w) ≡ (unless (orElse b (g v)) >> passed v)
+    next none = refl
+    next (some r) = refl
+
+-- ---- as far as 7
+
+only-check : (v : Input) (o : Option Refusal) → refusalOf (unless o >> passed v) ≡ o
+only-check v none = refl
+only-check v (some r) = refl
+
+module _ (s : List ℕ) where
+  -- refused by 1 to 3
+  pub unread-7 : (r : Refusal) → refusalOf (read s) ≡ some r → refusalOf (asFarAs7 s) ≡ some r
+  unfolding asFarAs7
+  unread-7 r e = rw (was-refused (read s) r e)
+
+  module _ (v : Input) (e : read s ≡ passed v) where
+    -- the refusal is that of 4 to 7
+    pub refusal-7 : refusalOf (asFarAs7 s) ≡ systemRefusal (system v)
+    unfolding asFarAs7
+    refusal-7 = rw e (only-check v (systemRefusal (system v)))
+
+    pub passed-7 : systemRefusal (system v) ≡ none → asFarAs7 s ≡ passed v
+    unfolding asFarAs7
+    passed-7 h = rw (e, h)
+
+-- ---- as far as 12
+
+module _ (s : List ℕ) where
+  -- refused by 1 to 3
+  pub unread-12 : (r : Refusal) → refusalOf (read s) ≡ some r → refusalOf (asFarAs12 s) ≡ some r
+  unfolding asFarAs12 asFarAs10 asFarAs7
+  unread-12 r e = rw (was-refused (read s) r e)
+
+  module _ (v : Input) (e : read s ≡ passed v) where
+    in-one : asFarAs12 s ≡ (unless (refusalTo12 (system v) (v .machines)) >> passed v)
+    unfolding asFarAs12 asFarAs10 asFarAs7 refusalTo12
+    in-one =
+        rw e
+        (joined v (systemRefusal (system v)) (λ w. machinesRefusal (system w) 0 (w .machines)) (λ w. coverRefusal (system w) (w .machines)))
+
+    -- the refusal is that of 4 to 12
+    pub refusal-12 : refusalOf (asFarAs12 s) ≡ refusalTo12 (system v) (v .machines)
+    refusal-12 = rw in-one (only-check v (refusalTo12 (system v) (v .machines)))
+
+    pub passed-12 : refusalTo12 (system v) (v .machines) ≡ none → asFarAs12 s ≡ passed v
+    passed-12 h = rw h at in-one
