@@ -1,13 +1,11 @@
 -- A set of machines as a number: its digits are the marks, so that a number stands for one set only.
-use Prim.Native.Nat.{ℕ, zero, suc, _+_, _*_, _/_, _%_, _^_, _<_}
-use native.Mathlib.Nat.{pow-suc}
+use Prim.Native.Nat.{ℕ, zero, suc, _+_, _*_, _/_, _%_}
 use native.Mathlib.Omega.{arith}
 use mathlib.Core.Path.{_≡_, sym, ap, _∙_}
 use mathlib.Core.Bool.{Bool, true, false, cond}
 use mathlib.Core.List.{List, [], _∷_}
 use lib.Dec.{eqb}
 use lib.ListN.{length, getD}
-use lib.Pow.{pow-pos}
 use lib.Seq.{ext-getD}
 use Rattle.state_set.specs.Member.{bit}
 use Rattle.state_set.proofs.Digits.{bit-zero, bit-suc, zero-bit}
@@ -25,12 +23,6 @@ low-digit false n = let q : (0 + 2 * n) % 2 ≡ 0 = omega arith in rw q
 high-digits : (b : Bool) (n : ℕ) → (digit b + 2 * n) / 2 ≡ n
 high-digits true n = omega arith
 high-digits false n = omega arith
-
-pub set-number-bound : (marks : List Bool) → setNumber marks < 2 ^ length marks
-unfolding setNumber
-set-number-bound [] = pow-pos 0
-set-number-bound (true ∷ marks) = rw (pow-suc 2 (length marks)) (omega (arith, set-number-bound marks))
-set-number-bound (false ∷ marks) = rw (pow-suc 2 (length marks)) (omega (arith, set-number-bound marks))
 
 pub set-number-bit : (marks : List Bool) (i : ℕ) → bit (setNumber marks) i ≡ getD marks i false
 unfolding setNumber
