@@ -24,7 +24,7 @@ pub enum NameWord {
     },
 }
 
-fn is_digit(b: u8) -> bool
+pub fn is_digit(b: u8) -> bool
     ensures { λ r. ⌜ r ≡ isDigit b ⌝ }
 {
     b'0' <= b && b <= b'9'
@@ -75,7 +75,7 @@ pub fn read_literal(s: &[u8], at: usize, w: &[u8]) -> Word
 }
 
 // The number that a digit writes.
-fn digit(b: u8) -> usize
+pub fn digit(b: u8) -> usize
     ensures { λ r. ⌜ (r ≡ b - 48) × (r < 256) ⌝ }
 {
     if b < b'0' { 0 } else { (b - b'0') as usize }

@@ -10,6 +10,7 @@ pub mod Text
 pub mod Sheet
 pub mod Table
 pub mod Services
+pub mod Printed
 pub mod Demands
 pub mod Examples
 pub mod Cases

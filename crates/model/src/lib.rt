@@ -13,7 +13,8 @@ pub const MAX_MACHINES: usize = 16;
 
 pub const MAX_PLACES: usize = 64;
 
-// A step record, as a caller lends it. Document 01: from-state, event number, to-state.
+// A step record, as a caller lends it, a caller in C too. Document 01: from-state, event number, to-state.
+#[repr(C)]
 pub struct Transition {
     pub source: u8,
     pub event: u8,

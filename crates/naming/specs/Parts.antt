@@ -3,10 +3,11 @@ use Prim.Native.Nat.{ℕ, _+_, _≤_}
 use mathlib.Core.Path.{_≡_}
 use mathlib.Core.List.{List}
 use mathlib.Core.Option.{some}
-use lib.ListN.{length}
+use denote.Ref.{RefT, now, ptr}
+use lib.ListN.{length, take, drop}
 use Rattle.model.specs.declared.Refusal as D
 use Rattle.model.specs.Cases.{tabled}
-use Rattle.model.specs.Services.{name, handedBack, nameRefusal}
+use Rattle.model.specs.Services.{Part, name, handedBack, nameRefusal}
 use Rattle.reader.specs.Tables.{verdictRefusal}
 use Rattle.naming.specs.declared.NamePart.{NamePart}
 
@@ -22,3 +23,9 @@ pub record Named (s : List ℕ) (e : ℕ) (r : NamePart) : Type 0 where
   pub begins : r .from ≡ handedBack (name s e) .from
   pub ends : r .end ≡ handedBack (name s e) .from + handedBack (name s e) .size
   pub inside : r .end ≤ length s
+
+-- What is handed back is the caller's own text from `from` on: these bytes, in the text's own memory, `from` bytes after its beginning.
+pub record PartOf (text : RefT (List ℕ)) (part : Part) (r : RefT (List ℕ)) : Type 0 where
+  pub bytes : now r ≡ take (part .size) (drop (part .from) (now text))
+  pub block : ptr r .0 ≡ ptr text .0
+  pub place : ptr r .1 ≡ ptr text .1 + part .from

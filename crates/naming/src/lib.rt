@@ -1,5 +1,8 @@
-// Where an event's name stands in the text.
-ghost use Rattle.naming.specs.Parts.{NoPart, Named};
+// The service Name: where an event's name stands in the text, and the name as the caller's own bytes.
+ghost use mathlib.Core.Path.{_≡_};
+ghost use Rattle.model.specs.Services as Services;
+ghost use Rattle.reader.specs.Tables.{verdictRefusal};
+ghost use Rattle.naming.specs.Parts.{NoPart, Named, PartOf};
 use model::Refusal;
 use reader::Verdict;
 use stages::read_as_far_as_7;
@@ -42,4 +45,22 @@ pub fn find_name(text: &[u8], event: usize) -> NamePart
     } else {
         no_part(Refusal::UnknownEvent { position: 0 })
     }
+}
+
+// Name: the event's name as the caller's own bytes, or the empty part at the text's beginning; `name_refusal` then says why.
+pub fn name(text: &[u8], event: usize) -> &[u8]
+    ensures { λ r. ⌜ PartOf (text .entry) (Services.handedBack (Services.name (now (text .entry)) event)) r ⌝ }
+{
+    let part = find_name(text, event);
+    let from = part.from;
+    let end = part.end;
+    &text[from..end]
+}
+
+// The refusal of Name; Passed where nothing is refused.
+pub fn name_refusal(text: &[u8], event: usize) -> Verdict
+    ensures { λ r. ⌜ verdictRefusal r ≡ Services.nameRefusal (now (text .entry)) event ⌝ }
+{
+    let part = find_name(text, event);
+    part.verdict
 }

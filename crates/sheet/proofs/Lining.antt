@@ -12,8 +12,9 @@ use Rattle.model.proofs.ListLaws.{flatMap-append}
 use Rattle.reader.specs.declared.Tables.{Tables}
 use Rattle.reader.specs.Told.{entry}
 use Rattle.reader.specs.Bounded.{NamesInside}
-use Rattle.sheet.specs.Written.{Writes, headBytes, namesIn, rowLine, rowLines, movesBytes, rowNames, rowSheet}
-use Rattle.sheet.proofs.Writing.{Room, within, writes-none, writes-append, writes-length}
+use Rattle.writers.specs.Written.{Writes}
+use Rattle.writers.proofs.Writing.{Room, within, writes-none, writes-append, writes-length}
+use Rattle.sheet.specs.Written.{headBytes, namesIn, rowLine, rowLines, movesBytes, rowNames, rowSheet}
 use Rattle.sheet.proofs.Parts.{length-head}
 
 -- the first line, and what machine k has on its own

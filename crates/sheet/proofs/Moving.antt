@@ -17,8 +17,9 @@ use Rattle.model.proofs.ListLaws.{flatMap-append}
 use Rattle.reader.specs.Told.{entry}
 use Rattle.reader.specs.Bounded.{NamesInside}
 use Rattle.regions.specs.Moves.{moveAt}
-use Rattle.sheet.specs.Written.{Writes, namesIn, rowMoves, movesBytes}
-use Rattle.sheet.proofs.Writing.{within, writes-none, writes-append, writes-length}
+use Rattle.writers.specs.Written.{Writes}
+use Rattle.writers.proofs.Writing.{within, writes-none, writes-append, writes-length}
+use Rattle.sheet.specs.Written.{namesIn, rowMoves, movesBytes}
 use Rattle.sheet.proofs.Parts.{length-move}
 
 -- the names, by their places in the text
@@ -30,10 +31,10 @@ module _ (s ats lens : List ℕ) where
   abbrev pub cut : ℕ → Name
   cut e = take (entry ats e + entry lens e - entry ats e) (drop (entry ats e) s)
 
-  cut-name : (e : ℕ) → cut e ≡ nameIn e
+  pub cut-name : (e : ℕ) → cut e ≡ nameIn e
   cut-name e = let z : entry ats e + entry lens e - entry ats e ≡ entry lens e = omega arith in rw z
 
-  length-names : (n : ℕ) → length (namesIn s ats lens n) ≡ n
+  pub length-names : (n : ℕ) → length (namesIn s ats lens n) ≡ n
   unfolding namesIn
   length-names zero = refl
   length-names (suc n) = omega (arith, length-append (namesIn s ats lens n) (nameIn n ∷ []), length-names n)

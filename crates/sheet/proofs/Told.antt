@@ -26,13 +26,18 @@ unfolding rowMoves movesBelow
 moves-told ts m pre post k zero h = refl
 moves-told ts m pre post k (suc n) h = rw (h n (omega arith), moves-told ts m pre post k n (λ e l. h e (omega arith)))
 
-module _ (s : List ℕ) (v : Input) (p : Tables) (pre post : List ℕ) (told : Told s v p) (moves : MovesTold (system v) (v .machines) pre post)
-    (passes : machinesRefusal (system v) 0 (v .machines) ≡ none) (l : Limits v) where
+-- the names that the rows have
+module _ (s : List ℕ) (v : Input) (p : Tables) (told : Told s v p) where
   names-told : (n : ℕ) → n ≤ length (v .names) → namesIn s (p .«name_at») (p .«name_len») n ≡ take n (v .names)
   unfolding namesIn nameOf
   names-told zero h = refl
   names-told (suc n) h = rw (take-suc (v .names) n [] h, names-told n (omega arith), told .name n h)
 
+  pub told-names : rowNames s p ≡ v .names
+  told-names = rw (told-events told, names-told (length (v .names)) (omega arith), take-length (v .names))
+
+module _ (s : List ℕ) (v : Input) (p : Tables) (pre post : List ℕ) (told : Told s v p) (moves : MovesTold (system v) (v .machines) pre post)
+    (passes : machinesRefusal (system v) 0 (v .machines) ≡ none) (l : Limits v) where
   start-told : (k : ℕ) (m : Machine) → At (v .machines) k m → entry (p .place) (k * 256 + p .initial) ≡ placeOf m (v .initial)
   start-told k m a =
       rw (told-initial told)
@@ -61,9 +66,6 @@ module _ (s : List ℕ) (v : Input) (p : Tables) (pre post : List ℕ) (told : T
       let z : 0 + n ≡ n = omega arith in
       rw (take-suc ls n x low, at-value ls n x x b, lines-told n (omega arith), line-told n m a, ← at-lines (system v) ms 0 n m x a b, z)
 
-  all-names : rowNames s p ≡ v .names
-  all-names = rw (told-events told, names-told (length (v .names)) (omega arith), take-length (v .names))
-
   all-lines : rowLines p pre post (p .machines) ≡ sheetLines (system v) 0 (v .machines)
   all-lines =
       let ls = sheetLines (system v) 0 (v .machines) in
@@ -73,7 +75,7 @@ module _ (s : List ℕ) (v : Input) (p : Tables) (pre post : List ℕ) (told : T
 
   pub told-sheet : rowSheet s p pre post ≡ sheet v
   unfolding rowSheet sheet
-  told-sheet = rw (all-lines, all-names, told .tells-machines .counted)
+  told-sheet = rw (all-lines, told-names s v p told, told .tells-machines .counted)
 
 -- a lent buffer that is long enough begins with what is written, and goes on as it was
 pub lent : (out xs : List ℕ) → length xs ≤ length out → sets out 0 xs ≡ xs ++ drop (length xs) out

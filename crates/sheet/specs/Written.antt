@@ -1,19 +1,12 @@
 -- The sheet that the rows give: the model's bytes of the model's lines, with each number and name taken from the rows.
 use Prim.Native.Nat.{ℕ, zero, suc, _+_, _*_}
-use mathlib.Core.Path.{_≡_}
 use mathlib.Core.List.{List, [], _∷_, _++_, flatMap}
-use lib.ListN.{length, take, drop}
-use lib.Seq.{sets}
+use lib.ListN.{take, drop}
 use Rattle.model.specs.Bytes.{bytes, digits, Name}
 use Rattle.model.specs.Sheet.{EventMove, SheetLine, addMove, writtenMove, writtenLine}
 use Rattle.reader.specs.declared.Tables.{Tables}
 use Rattle.reader.specs.Told.{entry}
 use Rattle.regions.specs.Moves.{moveAt}
-
--- bytes are written into a buffer at a position, and nothing else is changed; the answer is the position after them
-pub record Writes (word : List ℕ) (at : ℕ) (out : List ℕ) (next : ℕ) (left : List ℕ) : Type 0 where
-  pub after : next ≡ at + length word
-  pub bytes-left : left ≡ sets out at word
 
 -- what stands before the moves of a machine
 unfoldable pub headBytes : ℕ → ℕ → ℕ → List ℕ

@@ -1,4 +1,4 @@
 -- The laws behind the program.
 
--- what stands in the buffer is what the program prints
+-- what is printed lies in the buffer
 pub mod Printing

@@ -1,46 +1,55 @@
--- What the program prints on a text stands at the beginning of its buffer of 32,768 bytes, once the text is checked and a refusal is written as its line.
-use Prim.Native.Nat.{ℕ, _+_, _≤_}
+-- What the program answers lies in its buffer of 32,768 bytes, and a text that passes has as many machines as were read with its names.
+use Prim.Native.Nat.{ℕ, _≤_}
 use native.Mathlib.Omega.{arith}
-use mathlib.Core.Path.{_≡_, ap, sym, _∙_, subst}
+use mathlib.Core.Path.{_≡_, ap}
+use mathlib.Core.Logic.{inl, inr}
 use mathlib.Core.List.{List}
-use lib.ListN.{length}
-use lib.Seq.{sets}
-use Rattle.model.specs.Refusal.{Refusal, refuse, refused, passed}
-use Rattle.model.specs.Sheet.{sheet}
-use Rattle.model.specs.Services.{check, writtenRefusal, printed}
-use Rattle.model.proofs.Demands.{demand1}
-use Rattle.sheet.specs.Written.{Writes}
-use Rattle.sheet.proofs.Refusals.{refusal-fits}
-use Rattle.sheet.proofs.Told.{lent}
+use lib.ListN.{length, length-take}
+use Rattle.model.specs.Refusal.{passed}
+use Rattle.model.specs.Machine.{machinesRefusal, coverRefusal}
+use Rattle.model.specs.Text.{Input, system}
+use Rattle.model.specs.Services.{asFarAs7, asFarAs10, asFarAs12}
+use Rattle.model.proofs.Verdicts.{passed-clear}
+use Rattle.printing.specs.Shown.{MachinesOf}
+use Rattle.command_line.specs.declared.Declared.{Declared}
+use Rattle.command_line.specs.declared.Service.{Service}
+use Rattle.command_line.specs.declared.Service.the-variants.{Check, Steps, Name, Run, Thin, Help, Explain, Unknown}
+use Rattle.command_line.specs.Names.{Declares}
+use Rattle.split.specs.Answering.{Silent, Prints, Answers, Answered}
 
--- what is printed is written at the beginning, n bytes, and the others are as they were
-abbrev pub Stands : List ℕ → List ℕ → ℕ → List ℕ → Type 0
-Stands s out n left = (n ≤ 32768) × Writes (printed s) 0 out n left
+-- an answer lies in the buffer
+module _ (n : ℕ) (out : List ℕ) where
+  abbrev Lies : Type 0
+  Lies = (n ≤ 32768) × (length out ≡ 32768)
 
-module _ (s out : List ℕ) (h : length out ≡ 32768) where
-  -- no text is refused for the buffer's size, so the refusal is the one that is printed
-  refusal-printed : {r : Refusal} → refused r ≡ check s out .answer → writtenRefusal r ≡ printed s
-  unfolding writtenRefusal
-  refusal-printed {r} a = sym (demand1 s .printing .refuses r (demand1 s .printing .suffices out h r .0 (sym a)))
+  silent-lies : Silent n out → Lies
+  silent-lies (e, l) = (omega arith, l)
 
-  module _ {left : List ℕ} (e : left ≡ check s out .left) where
-    -- any refusal's line has room in what the check leaves
-    pub line-fits : (number detail second : ℕ) → length (writtenRefusal (refuse number detail second)) ≤ length left
-    line-fits number detail second = omega (arith, refusal-fits number detail second, ap length e, demand1 s .checking out .length-kept, h)
+  prints-lies : {A : Type 0} (word : A → List ℕ) → Prints word n out → Lies
+  prints-lies word (inl e) = silent-lies e
+  prints-lies word (inr (a, w)) = (omega (arith, w .size, w .buffer, ap length (w .shown), length-take n out), w .buffer)
 
-    -- a refused check leaves the buffer as it was
-    pub line-stands : {number detail second n : ℕ} {r : Refusal} {line : List ℕ} → refused r ≡ check s out .answer → refuse number detail second ≡ r
-        → Writes (writtenRefusal (refuse number detail second)) 0 left n line → Stands s out n line
-    line-stands {number} {detail} {second} {n} {r} {line} a q w = (
-      omega (arith, w .after, refusal-fits number detail second),
-      subst (λ (word : List ℕ). Writes word 0 out n line) (ap writtenRefusal q ∙ refusal-printed a)
-          (subst (λ (buffer : List ℕ). Writes (writtenRefusal (refuse number detail second)) 0 buffer n line) (e ∙ demand1 s .checking out .untouched r (sym a)) w),
-    )
+  lies : (asked : Service) (s : List ℕ) → Answers asked s n out → (n ≤ 32768) × (length out ≡ 32768)
+  lies Check s a = prints-lies _ a
+  lies Steps s a = prints-lies _ a
+  lies Name s a = prints-lies _ a
+  lies Run s a = prints-lies _ a
+  lies Thin s a = prints-lies _ a
+  lies Help s a = silent-lies a
+  lies Explain s a = silent-lies a
+  lies Unknown s a = silent-lies a
 
-    pub sheet-stands : {n : ℕ} → passed n ≡ check s out .answer → Stands s out n left
-    sheet-stands {n} a =
-        let (v, p, size, fits) = demand1 s .checking out .accepts n .0 (sym a) in
-        let room : length (sheet v) ≤ length out = omega (arith, size, fits) in
-        let stands : Writes (sheet v) 0 out n left =
-        record { after = omega (arith, size); bytes-left = e ∙ demand1 s .checking out .writes v p room ∙ sym (lent out (sheet v) room) } in
-        (omega (arith, fits, h), subst (λ (word : List ℕ). Writes word 0 out n left) (sym (demand1 s .printing .accepts v p)) stands)
+pub answered : {asked a : Service} {s : List ℕ} {n : ℕ} {out : List ℕ} → asked ≡ a → Answers a s n out → Answered asked s n out
+answered {a = a} {s} {n} {out} e w =
+    let (m, b) = lies n out a s w in
+    record { answers = rw e w; most = m; buffer = b }
+
+-- what passes 12 passes 7
+passes-7 : (s : List ℕ) (v : Input) → asFarAs12 s ≡ passed v → asFarAs7 s ≡ passed v
+unfolding asFarAs12 asFarAs10
+passes-7 s v e =
+    passed-clear (asFarAs7 s) (λ w. machinesRefusal (system w) 0 (w .machines)) v
+    (passed-clear (asFarAs10 s) (λ w. coverRefusal (system w) (w .machines)) v e .0) .0
+
+pub machines-of : {s : List ℕ} {d : Declared} → Declares s d → MachinesOf s (d .machines)
+machines-of {s} h v e = h .machines v (passes-7 s v e)

@@ -3,7 +3,7 @@ use Prim.Native.Nat.{ℕ}
 use mathlib.Core.Path.{_≡_, refl, ap, sym, subst, _∙_}
 use mathlib.Core.List.{List}
 use mathlib.Core.Option.{none}
-use lib.ListN.{replicate}
+use lib.ListN.{length, replicate}
 use Rattle.model.specs.declared.Refusal as D
 use Rattle.model.specs.Cases.{tabled}
 use Rattle.model.specs.Refusal.{refused, passed, refusalOf}
@@ -19,6 +19,8 @@ use Rattle.reader.specs.declared.Reading.{Reading}
 use Rattle.reader.specs.Tables.{verdictRefusal, tablesOf}
 use Rattle.reader.specs.Told.{systemOf, MachinesTold, Told}
 use Rattle.reader.proofs.Bounds.{bounded, names-inside}
+use Rattle.reader.proofs.Fronts.{front-length}
+use Rattle.reader.proofs.Telling.{told-transitions}
 use Rattle.closure.specs.Covers.{CoverTold}
 use Rattle.closure.proofs.Filling.{no-machines}
 use Rattle.checker.specs.Order.{refusalTo12, CheckedTo12}
@@ -111,3 +113,7 @@ module _ {s : List ℕ} {p : Tables} {pre post rows excited : List ℕ} (j : Jud
   pub machines-pass : machinesRefusal (system value) 0 (value .machines) ≡ none
   unfolding refusalTo12
   machines-pass = orElse-none _ _ (orElse-none _ _ (j .passes) .1) .0
+
+-- the rows count the value's transitions
+pub counted : {s : List ℕ} {p : Tables} (h : Held (asFarAs7 s) s p) → p .transitions ≡ length (h .value .transitions)
+counted {p = p} h = sym (front-length (p .source) (p .event) (p .target) (p .transitions)) ∙ ap length (told-transitions (h .told))

@@ -1,4 +1,4 @@
--- `naming::find_name` meets its contract: each way out is a law of `Naming` at what the calls have said.
+-- `naming::find_name` meets its contract: each way out is a law of `Parts` at what the calls have said.
 use Prim.Native.Nat.{ℕ}
 use native.Mathlib.Omega.{arith}
 use mathlib.Core.List.{List}

@@ -1,7 +1,7 @@
 -- `sheet::figure_len` meets its contract.
 use native.Mathlib.Omega.{arith}
 use mathlib.Core.Path.{sym}
-use Rattle.sheet.proofs.Figures.{length-one, length-two, length-three}
+use Rattle.writers.proofs.Figures.{length-one, length-two, length-three}
 use Rattle.sheet.proofs.figure_len.Statement.{statement}
 use Rattle.sheet.proofs.figure_len.Tie as tie
 

@@ -1,7 +1,7 @@
 -- `sheet::move_len` meets its contract.
 use native.Mathlib.Omega.{arith}
 use borrow.Author.Needs.{needs}
-use Rattle.sheet.proofs.Figures.{length-same}
+use Rattle.writers.proofs.Figures.{length-same}
 use Rattle.sheet.proofs.move_len.Statement.{statement}
 use Rattle.sheet.proofs.move_len.Tie as tie
 

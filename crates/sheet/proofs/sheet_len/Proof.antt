@@ -3,7 +3,7 @@ use Prim.Native.Nat.{_-_}
 use native.Mathlib.Omega.{arith}
 use mathlib.Core.Path.{_∙_}
 use borrow.Author.Needs.{needs}
-use Rattle.sheet.proofs.Figures.{length-same}
+use Rattle.writers.proofs.Figures.{length-same}
 use Rattle.sheet.proofs.Lining.{Totalled, totalled-none, totalled-add, totalled-end}
 use Rattle.sheet.proofs.sheet_len.Statement.{statement}
 use Rattle.sheet.proofs.sheet_len.Tie as tie

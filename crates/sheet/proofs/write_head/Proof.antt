@@ -1,9 +1,9 @@
 -- `sheet::write_head` meets its contract: seven words, one after another.
 use native.Mathlib.Omega.{arith}
 use borrow.Author.Needs.{needs}
+use Rattle.writers.proofs.Writing.{writes-append}
+use Rattle.writers.proofs.Figures.{length-same, writes-same}
 use Rattle.sheet.specs.Written.{headBytes}
-use Rattle.sheet.proofs.Writing.{writes-append}
-use Rattle.sheet.proofs.Figures.{length-same, writes-same}
 use Rattle.sheet.proofs.Parts.{length-head}
 use Rattle.sheet.proofs.write_head.Statement.{statement}
 use Rattle.sheet.proofs.write_head.Tie as tie

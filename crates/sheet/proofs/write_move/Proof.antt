@@ -3,8 +3,8 @@ use native.Mathlib.Omega.{arith}
 use borrow.Author.Needs.{needs}
 use denote.Ref.{now}
 use Rattle.model.specs.Sheet.{moveBytes}
-use Rattle.sheet.proofs.Writing.{writes-append}
-use Rattle.sheet.proofs.Figures.{length-same, writes-same}
+use Rattle.writers.proofs.Writing.{writes-append}
+use Rattle.writers.proofs.Figures.{length-same, writes-same}
 use Rattle.sheet.proofs.Parts.{length-move}
 use Rattle.sheet.proofs.write_move.Statement.{statement}
 use Rattle.sheet.proofs.write_move.Tie as tie

@@ -3,7 +3,7 @@ use Prim.Native.Nat.{_-_}
 use native.Mathlib.Omega.{arith}
 use mathlib.Core.Logic.{⊎-elim}
 use borrow.Author.Needs.{needs}
-use Rattle.sheet.proofs.Writing.{writes-length}
+use Rattle.writers.proofs.Writing.{writes-length}
 use Rattle.sheet.proofs.Moving.{name-inside, Moved, moved-none, moved-skip, moved-add, moved-room, moved-end}
 use Rattle.sheet.proofs.write_moves.Statement.{statement}
 use Rattle.sheet.proofs.write_moves.Tie as tie

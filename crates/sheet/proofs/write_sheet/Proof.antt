@@ -4,8 +4,8 @@ use native.Mathlib.Omega.{arith}
 use mathlib.Core.Path.{_∙_}
 use borrow.Author.Needs.{needs}
 use denote.Ref.{now}
-use Rattle.sheet.specs.Written.{Writes}
-use Rattle.sheet.proofs.Writing.{room-first, room-second, room-third, writes-append, writes-length}
+use Rattle.writers.specs.Written.{Writes}
+use Rattle.writers.proofs.Writing.{room-first, room-second, room-third, writes-append, writes-length}
 use Rattle.sheet.proofs.Lining.{title, title-within, LineRoom, Lined, lined-none, lined-add, lined-room, lined-end}
 use Rattle.sheet.proofs.write_sheet.Statement.{statement}
 use Rattle.sheet.proofs.write_sheet.Tie as tie

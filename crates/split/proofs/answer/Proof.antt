@@ -1,62 +1,115 @@
--- `split::answer` meets its contract: the sheet stands where the check left it, and a refusal's line is written over what it left.
+-- `split::answer` meets its contract: each service has its own answer.
+use mathlib.Core.Path.{refl}
 use borrow.Author.Needs.{needs}
-use Rattle.splitter.specs.Answers.{answered, numbered}
-use Rattle.split.proofs.Printing.{line-fits, line-stands, sheet-stands}
+use Rattle.split.proofs.Printing.{answered}
 use Rattle.split.proofs.answer.Statement.{statement}
 use Rattle.split.proofs.answer.Tie as tie
 
-check-requires : tie.Need-check-requires
-check-requires c κs = search needs
+enum-told : tie.Need-enum-told
+enum-told c = search needs
 
-enum-known-why : tie.Need-enum-known-why
-enum-known-why c = search needs
+answer-check-requires : tie.Need-answer-check-requires
+answer-check-requires c κs = search needs
 
-numbers-requires : tie.Need-numbers-requires
-numbers-requires c κs = search needs
+enum-told-2 : tie.Need-enum-told-2
+enum-told-2 c = search needs
 
-write-refusal-requires : tie.Need-write-refusal-requires
-write-refusal-requires c κs =
-    let checked = c .before .before .before .before .before .before .before in
-    line-fits _ _ (checked .before .before .before .before .pre) (checked .check .ensures .1) _ _ _
+answer-steps-requires : tie.Need-answer-steps-requires
+answer-steps-requires c κs = search needs
 
-enum-known-size : tie.Need-enum-known-size
-enum-known-size c = search needs
+enum-told-3 : tie.Need-enum-told-3
+enum-told-3 c = search needs
+
+answer-name-requires : tie.Need-answer-name-requires
+answer-name-requires c κs = search needs
+
+enum-told-4 : tie.Need-enum-told-4
+enum-told-4 c = search needs
+
+answer-run-requires : tie.Need-answer-run-requires
+answer-run-requires c κs = search needs
+
+enum-told-5 : tie.Need-enum-told-5
+enum-told-5 c = search needs
+
+answer-thin-requires : tie.Need-answer-thin-requires
+answer-thin-requires c κs = search needs
+
+enum-told-6 : tie.Need-enum-told-6
+enum-told-6 c = search needs
+
+enum-told-7 : tie.Need-enum-told-7
+enum-told-7 c = search needs
+
+enum-told-8 : tie.Need-enum-told-8
+enum-told-8 c = search needs
 
 same-length : tie.Need-same-length
 same-length c = search needs
 
 returns : tie.Need-returns
-unfolding answered numbered
-returns c =
-    let written = c .before .before in
-    let row = written .before .before in
-    let told = row .before .before in
-    let checked = told .before .before .before .before in
-    line-stands _ _ (checked .before .before .before .before .pre) (checked .check .ensures .1)
-    (rw (told .why .given .1) at (checked .check .ensures .0))
-    (row .numbers .ensures)
-    (written .write-refusal .ensures)
+returns c = answered (c .before .before .before .before .enum-told .given .1) (c .before .before .answer-check .ensures)
 
 same-length-2 : tie.Need-same-length-2
 same-length-2 c = search needs
 
 returns-2 : tie.Need-returns-2
-unfolding answered
-returns-2 c =
-    let checked = c .before .before .before .before .before in
-    sheet-stands _ _ (checked .before .before .before .before .pre) (checked .check .ensures .1)
-    (rw (c .before .size .given .1) at (checked .check .ensures .0))
+returns-2 c = answered (c .before .before .before .before .enum-told2 .given .1) (c .before .before .answer-steps .ensures)
+
+same-length-3 : tie.Need-same-length-3
+same-length-3 c = search needs
+
+returns-3 : tie.Need-returns-3
+returns-3 c = answered (c .before .before .before .before .enum-told3 .given .1) (c .before .before .answer-name .ensures)
+
+same-length-4 : tie.Need-same-length-4
+same-length-4 c = search needs
+
+returns-4 : tie.Need-returns-4
+returns-4 c = answered (c .before .before .before .before .enum-told4 .given .1) (c .before .before .answer-run .ensures)
+
+same-length-5 : tie.Need-same-length-5
+same-length-5 c = search needs
+
+returns-5 : tie.Need-returns-5
+returns-5 c = answered (c .before .before .before .before .enum-told5 .given .1) (c .before .before .answer-thin .ensures)
+
+returns-6 : tie.Need-returns-6
+returns-6 c = answered (c .enum-told6 .given .1) (refl, search needs)
+
+returns-7 : tie.Need-returns-7
+returns-7 c = answered (c .enum-told7 .given .1) (refl, search needs)
+
+returns-8 : tie.Need-returns-8
+returns-8 c = answered (c .enum-told8 .given .1) (refl, search needs)
 
 pub answer-spec : {M : Type 1} → statement M
 answer-spec =
     tie.close
     (tie.spec
-    check-requires
-    enum-known-why
-    numbers-requires
-    write-refusal-requires
-    enum-known-size
+    enum-told
+    answer-check-requires
+    enum-told-2
+    answer-steps-requires
+    enum-told-3
+    answer-name-requires
+    enum-told-4
+    answer-run-requires
+    enum-told-5
+    answer-thin-requires
+    enum-told-6
+    enum-told-7
+    enum-told-8
     same-length
     returns
     same-length-2
-    returns-2)
+    returns-2
+    same-length-3
+    returns-3
+    same-length-4
+    returns-4
+    same-length-5
+    returns-5
+    returns-6
+    returns-7
+    returns-8)

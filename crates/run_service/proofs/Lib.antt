@@ -1,0 +1,4 @@
+-- The laws behind Run.
+
+-- Run, by its ways out
+pub mod Running

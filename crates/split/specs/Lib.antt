@@ -1,0 +1,2 @@
+-- `Answering`: what the program answers.
+pub mod Answering

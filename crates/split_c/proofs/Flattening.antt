@@ -1,0 +1,101 @@
+-- Each answer of a service as numbers, by the service's ways out. `n` is what `numbers` makes of the refusal.
+use Prim.Native.Nat.{ℕ, _-_}
+use native.Mathlib.Omega.{arith}
+use mathlib.Core.Path.{_≡_, refl, ap, sym, _∙_}
+use mathlib.Core.List.{List}
+use mathlib.Core.Option.{some, none, Option·some-ne-none, Option·some-injective}
+use Rattle.model.specs.declared.Refusal as D
+use Rattle.model.specs.Cases.{tabled}
+use Rattle.model.specs.Refusal.{Refusal, Checked, refused, passed, refusalOf}
+use Rattle.model.specs.Services as Services
+use Rattle.model.specs.Services.{Part, name, handedBack, nameRefusal, refusedBy}
+use Rattle.reader.specs.declared.Verdict.the-variants as C
+use Rattle.reader.specs.Tables.{verdictRefusal}
+use Rattle.product.specs.declared.Outcome.{Outcome}
+use Rattle.product.specs.declared.Outcome.the-variants as O
+use Rattle.product.specs.declared.RunAnswer.{RunAnswer}
+use Rattle.product.specs.Answers.{outcomeIs, runAnswer}
+use Rattle.naming.specs.declared.NamePart.{NamePart}
+use Rattle.naming.specs.Parts.{Named}
+use Rattle.answers.specs.declared.Answer.{Answer}
+use Rattle.answers.specs.declared.Answer.the-variants as A
+use Rattle.thin_service.specs.declared.Thinned.{Thinned}
+use Rattle.thin_service.specs.declared.Thinned.the-variants as T
+use Rattle.answers.specs.declared.RefusalNumbers.{RefusalNumbers}
+use Rattle.answers.specs.Answers.{answered, numbered}
+use Rattle.thin_service.specs.Answers.{thinned}
+use Rattle.split_c.specs.declared.FlatOutcome.{FlatOutcome}
+use Rattle.split_c.specs.Flat.{flatAnswer, flatPart, flatOutcome, withPlaces, flatRun, flatSet}
+
+-- ---- check and steps
+
+module _ {answer : Answer} where
+  pub answer-refused : {why : D.Refusal} (n : RefusalNumbers) → answer ≡ A.Refused why → numbered n ≡ tabled why
+      → record { number = n .number; detail = n .detail; second = n .second; size = 0 } ≡ flatAnswer (answered answer)
+  unfolding flatAnswer answered numbered
+  answer-refused n e q = rw e (ap (λ (r : Refusal). flatAnswer (refused r)) q)
+
+  pub answer-accepted : {size : ℕ} → answer ≡ A.Accepted size → record { number = 0; detail = 0; second = 0; size = size } ≡ flatAnswer (answered answer)
+  unfolding flatAnswer answered
+  answer-accepted e = ap (λ (a : Answer). flatAnswer (answered a)) (sym e)
+
+-- ---- name
+
+-- a refusal, or the ends of the part that is handed back
+of-refusal : (c : Checked Part) {x : Refusal} (n : RefusalNumbers) → some x ≡ refusalOf c → numbered n ≡ x
+    → record { number = n .number; detail = n .detail; second = n .second; from = 0; size = 0 } ≡ flatPart c
+unfolding flatPart numbered
+of-refusal (refused r) n e q = ap (λ (y : Refusal). flatPart (refused y)) (q ∙ Option·some-injective _ _ e)
+of-refusal (passed p) n e q = absurd (Option·some-ne-none _ e)
+
+of-part : (c : Checked Part) → none ≡ refusalOf c → record { number = 0; detail = 0; second = 0; from = handedBack c .from; size = handedBack c .size } ≡ flatPart c
+unfolding flatPart handedBack
+of-part (refused r) e = absurd (Option·some-ne-none _ (sym e))
+of-part (passed p) e = refl
+
+module _ {s : List ℕ} {e : ℕ} {part : NamePart} (h : Named s e part) where
+  pub name-refused : {why : D.Refusal} (n : RefusalNumbers) → part .verdict ≡ C.Refused why → numbered n ≡ tabled why
+      → record { number = n .number; detail = n .detail; second = n .second; from = 0; size = 0 } ≡ flatPart (name s e)
+  unfolding verdictRefusal nameRefusal
+  name-refused n q = of-refusal (name s e) n (rw q at (h .verdict))
+
+  pub name-passed : part .verdict ≡ C.Passed
+      → record { number = 0; detail = 0; second = 0; from = part .from; size = part .end - part .from } ≡ flatPart (name s e)
+  unfolding verdictRefusal nameRefusal
+  name-passed q =
+      let size : part .end - part .from ≡ handedBack (name s e) .size = omega (arith, h .begins, h .ends) in
+      rw (size, h .begins) (of-part (name s e) (rw q at (h .verdict)))
+
+-- ---- run
+
+module _ {outcome : Outcome} where
+  pub outcome-whole : outcome ≡ O.Whole → record { number = 0; detail = 0; second = 0; blocked = 0; ran = 0; machine = 0 } ≡ flatOutcome (outcomeIs outcome)
+  unfolding flatOutcome outcomeIs
+  outcome-whole e = ap (λ (o : Outcome). flatOutcome (outcomeIs o)) (sym e)
+
+  pub outcome-blocked : {ran machine : ℕ} → outcome ≡ O.Blocked ran machine
+      → record { number = 0; detail = 0; second = 0; blocked = 1; ran = ran; machine = machine } ≡ flatOutcome (outcomeIs outcome)
+  unfolding flatOutcome outcomeIs
+  outcome-blocked e = ap (λ (o : Outcome). flatOutcome (outcomeIs o)) (sym e)
+
+  pub outcome-refused : {why : D.Refusal} (n : RefusalNumbers) → outcome ≡ O.Refused why → numbered n ≡ tabled why
+      → record { number = n .number; detail = n .detail; second = n .second; blocked = 0; ran = 0; machine = 0 } ≡ flatOutcome (outcomeIs outcome)
+  unfolding flatOutcome outcomeIs numbered
+  outcome-refused n e q = rw e (ap (λ (r : Refusal). flatOutcome (refusedBy r)) q)
+
+pub run-told : (a : RunAnswer) {t : FlatOutcome} {r : Services.RunAnswer} → runAnswer a ≡ r → t ≡ flatOutcome (outcomeIs (a .outcome)) → withPlaces t (a .places) ≡ flatRun r
+unfolding flatRun runAnswer
+run-told a e q = ap (λ (t : FlatOutcome). withPlaces t (a .places)) q ∙ ap flatRun e
+
+-- ---- thin
+
+module _ {answer : Thinned} {c : Checked (ℕ × ℕ)} (h : thinned answer ≡ c) where
+  pub set-refused : {why : D.Refusal} (n : RefusalNumbers) → answer ≡ T.Refused why → numbered n ≡ tabled why
+      → record { number = n .number; detail = n .detail; second = n .second; machines = 0; size = 0 } ≡ flatSet c
+  unfolding flatSet thinned numbered
+  set-refused n e q = rw (← h, e) (ap (λ (r : Refusal). flatSet (refused r)) q)
+
+  pub set-kept : {machines size : ℕ} → answer ≡ T.Kept machines size
+      → record { number = 0; detail = 0; second = 0; machines = machines; size = size } ≡ flatSet c
+  unfolding flatSet thinned
+  set-kept e = rw (← h, e)

@@ -1,0 +1,2 @@
+-- `Listing`: what Steps answers, and the numbers of the records that it writes.
+pub mod Listing

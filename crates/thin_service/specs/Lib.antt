@@ -1,0 +1,2 @@
+-- `Answers`: what Thin answers in the model's words.
+pub mod Answers

@@ -1,0 +1,2 @@
+-- `Written`: bytes that are written into a lent buffer.
+pub mod Written

@@ -1,0 +1,77 @@
+// Bytes, figures and numerals into a lent buffer; the line that tells a refusal.
+ghost use mathlib.Core.Path.{_≡_};
+ghost use Prim.Native.Nat.{_+_, _<_, _≤_};
+ghost use lib.ListN.{length};
+ghost use Rattle.model.specs.Refusal.{refuse};
+ghost use Rattle.model.specs.Bytes.{digits, numeral};
+ghost use Rattle.model.specs.Services.{writtenRefusal};
+ghost use Rattle.writers.specs.Written.{Writes};
+
+// The digit that writes a number below 10.
+fn digit(n: usize) -> u8
+    requires { ⌜ n < 10 ⌝ }
+    ensures { λ r. ⌜ r ≡ 48 + n ⌝ }
+{
+    b'0' + n as u8
+}
+
+// Bytes into a lent buffer at a position. The answer is the position after them, here and below.
+pub fn write_bytes(word: &[u8], out: &mut [u8], at: usize) -> usize
+    requires { ⌜ at + length (now word) ≤ length (now out) ⌝ }
+    ensures { λ r. ⌜ Writes (now (word .entry)) at (now (out .entry)) r (now (out .exit)) ⌝ }
+{
+    let mut i = 0;
+    while i < word.len() {
+        out[at + i] = word[i];
+        i += 1;
+    }
+    at + i
+}
+
+// A number up to 999.
+pub fn write_figure(n: usize, out: &mut [u8], at: usize) -> usize
+    requires { ⌜ (n ≤ 999) × (at + length (digits n) ≤ length (now out)) ⌝ }
+    ensures { λ r. ⌜ Writes (digits n) at (now (out .entry)) r (now (out .exit)) ⌝ }
+{
+    if n < 10 {
+        out[at] = digit(n);
+        return at + 1;
+    }
+    if n < 100 {
+        out[at] = digit(n / 10);
+        out[at + 1] = digit(n % 10);
+        return at + 2;
+    }
+    out[at] = digit(n / 100);
+    out[at + 1] = digit(n / 10 % 10);
+    out[at + 2] = digit(n % 10);
+    at + 3
+}
+
+// Any number, in base ten.
+pub fn write_numeral(n: usize, out: &mut [u8], at: usize) -> usize
+    requires { ⌜ at + length (numeral n) ≤ length (now out) ⌝ }
+    ensures { λ r. ⌜ Writes (numeral n) at (now (out .entry)) r (now (out .exit)) ⌝ }
+{
+    if n < 10 {
+        out[at] = digit(n);
+        return at + 1;
+    }
+    let i = write_numeral(n / 10, out, at);
+    out[i] = digit(n % 10);
+    i + 1
+}
+
+// A refusal's number and details, at the beginning of the buffer.
+pub fn write_refusal(number: usize, detail: usize, second: usize, out: &mut [u8]) -> usize
+    requires { ⌜ length (writtenRefusal (refuse number detail second)) ≤ length (now out) ⌝ }
+    ensures { λ r. ⌜ Writes (writtenRefusal (refuse number detail second)) 0 (now (out .entry)) r (now (out .exit)) ⌝ }
+{
+    let a = write_bytes(b"(refused ", out, 0);
+    let b = write_numeral(number, out, a);
+    let c = write_bytes(b" ", out, b);
+    let d = write_numeral(detail, out, c);
+    let e = write_bytes(b" ", out, d);
+    let f = write_numeral(second, out, e);
+    write_bytes(b")\n", out, f)
+}

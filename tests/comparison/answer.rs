@@ -1,0 +1,67 @@
+//! What the independent program answers to a call, as it prints it and as the library has to tell it.
+use crate::call::Call;
+use crate::library::Step;
+
+use crate::RULES;
+
+/// The printed answer, and no other than one known beforehand.
+pub fn expected(call: &Call, text: &[u8]) -> Vec<u8> {
+    let figures: Vec<String> = call.numbers(text).iter().map(usize::to_string).collect();
+    let answer = reference::answer(RULES, call.service(), &figures, text);
+    if let Some(known) = &call.known {
+        let shown = String::from_utf8_lossy;
+        assert_eq!(*known, shown(&answer), "the independent program, {} on {}", call.shown(), shown(text));
+    }
+    answer
+}
+
+/// 0 where nothing is refused, else the number of the refusal.
+pub fn class(printed: &[u8]) -> usize {
+    refusal(printed).map_or(0, |refusal| refusal[0])
+}
+
+fn refusal(printed: &[u8]) -> Option<[usize; 3]> {
+    figures(printed.strip_prefix(b"(refused ")?).try_into().ok()
+}
+
+/// All figures of a line that holds no name.
+fn figures(line: &[u8]) -> Vec<usize> {
+    let words = line.split(|b| !b.is_ascii_digit()).filter(|word| !word.is_empty());
+    words.map(|word| String::from_utf8_lossy(word).parse().unwrap_or(usize::MAX)).collect()
+}
+
+/// The machines that an answer of thin keeps, whoever printed it.
+pub fn kept(printed: &[u8]) -> Option<Vec<usize>> {
+    figures(printed.strip_prefix(b"(kept ")?).get(1..).map(<[usize]>::to_vec)
+}
+
+/// What a printed answer says.
+pub enum Told {
+    Refused([usize; 3]),
+    Sheet(Vec<u8>),
+    Steps(Vec<Step>),
+    Name(Vec<u8>),
+    /// How many ran and the machine that blocked, if one did; the place of each machine.
+    Ran(Option<(usize, usize)>, Vec<usize>),
+    Kept(Vec<usize>),
+}
+
+impl Told {
+    pub fn of(call: &Call, printed: &[u8]) -> Told {
+        if let Some(refusal) = refusal(printed) {
+            return Told::Refused(refusal);
+        }
+        let line = printed.strip_suffix(b"\n").expect("a line that ends");
+        match call.service() {
+            "check" => Told::Sheet(printed.to_vec()),
+            "steps" => Told::Steps(figures(line)[1..].chunks(3).map(Step::new).collect()),
+            "name" => Told::Name(line.to_vec()),
+            "run" => {
+                let mut told = figures(line);
+                let blocked = line.starts_with(b"(blocked ").then(|| (told.remove(0), told.remove(0)));
+                Told::Ran(blocked, told)
+            }
+            _ => Told::Kept(kept(printed).expect("machines that are kept")),
+        }
+    }
+}

@@ -1,0 +1,92 @@
+//! A call as the command line has it: a service and its words, on a text.
+
+pub const SERVICES: [&str; 5] = ["check", "steps", "name", "run", "thin"];
+
+/// Without a service it is check. A lent size is a figure; an event is a figure or a name.
+#[derive(Clone, PartialEq, Eq, Hash)]
+pub struct Call {
+    pub words: Vec<String>,
+    /// The answer by hand, or from how the text was made. The independent program has to give it too.
+    pub known: Option<String>,
+}
+
+/// Calls on one text, which the program gets in these pieces, with a pause between them.
+#[derive(Clone)]
+pub struct Task {
+    pub kind: &'static str,
+    pub pieces: Vec<Vec<u8>>,
+    pub calls: Vec<Call>,
+}
+
+/// The words as a line has them.
+pub fn call(line: &str) -> Call {
+    Call { words: line.split_whitespace().map(str::to_string).collect(), known: None }
+}
+
+/// The service with an argument that may be left out.
+pub fn lending(service: &str, lent: Option<String>) -> Call {
+    call(&format!("{service} {}", lent.unwrap_or_default()))
+}
+
+pub fn run(events: &[impl ToString]) -> Call {
+    let words = events.iter().map(|event| event.to_string());
+    Call { words: std::iter::once("run".to_string()).chain(words).collect(), known: None }
+}
+
+fn is_name(word: &str) -> bool {
+    let inner = |b: u8| b.is_ascii_lowercase() || b.is_ascii_digit() || b == b'-';
+    word.len() <= 16 && word.starts_with(|c: char| c.is_ascii_lowercase()) && word.bytes().all(inner)
+}
+
+/// The names of line 2; none if it is not what it should be.
+pub fn names(text: &[u8]) -> Vec<String> {
+    let line = text.split(|b| *b == b'\n').nth(1).unwrap_or_default();
+    let line = String::from_utf8_lossy(line);
+    let listed = line.strip_prefix("(events ").and_then(|rest| rest.strip_suffix(")")).unwrap_or_default();
+    let names: Vec<String> = listed.split(' ').map(str::to_string).collect();
+    if names.iter().all(|name| is_name(name)) {
+        names
+    } else {
+        Vec::new()
+    }
+}
+
+impl Call {
+    pub fn giving(self, answer: &str) -> Call {
+        Call { known: Some(answer.to_string()), ..self }
+    }
+
+    pub fn service(&self) -> &str {
+        self.words.first().map_or("check", |word| word)
+    }
+
+    pub fn arguments(&self) -> &[String] {
+        self.words.get(1..).unwrap_or_default()
+    }
+
+    /// The arguments as numbers. What is not declared becomes one that never is, and so does a figure that is too large
+    /// to be one; as a lent size that is as good as what it says.
+    pub fn numbers(&self, text: &[u8]) -> Vec<usize> {
+        let names = names(text);
+        let number = |word: &String| match word.as_bytes()[0] {
+            b'0'..=b'9' => word.parse().unwrap_or(usize::MAX),
+            _ => names.iter().position(|name| name == word).unwrap_or(usize::MAX),
+        };
+        self.arguments().iter().map(number).collect()
+    }
+
+    /// To be typed again.
+    pub fn shown(&self) -> String {
+        format!("split {}", self.words.join(" "))
+    }
+}
+
+impl Task {
+    pub fn new(kind: &'static str, text: impl Into<Vec<u8>>, calls: Vec<Call>) -> Task {
+        Task { kind, pieces: vec![text.into()], calls }
+    }
+
+    pub fn text(&self) -> Vec<u8> {
+        self.pieces.concat()
+    }
+}

@@ -1,0 +1,131 @@
+//! The program and the library held to an independent program on many calls, the plan and the machines walked side by
+//! side on each text. See the script of the same name for how to call it.
+//!
+//!     compare PROGRAM SEED COUNT [FEWEST]     at the root of the repository; each answer comes FEWEST times or more
+use answer::Told;
+use call::Task;
+use program::Program;
+use report::Report;
+use std::sync::mpsc::{sync_channel, Receiver};
+use std::sync::Mutex;
+use std::{env, panic, process, thread};
+use telling::Split;
+use watchdog::Watchdog;
+
+mod answer;
+mod call;
+mod crowds;
+mod damage;
+mod defects;
+mod dice;
+mod draft;
+mod fixed;
+mod forms;
+mod generated;
+mod lent;
+mod library;
+mod limits;
+mod machines;
+mod products;
+mod program;
+mod redundant;
+mod report;
+mod subject;
+mod telling;
+mod tiny;
+mod walking;
+mod watchdog;
+mod wide;
+mod words;
+mod written;
+
+/// Document 01 alone: none of the later requests is in force.
+const RULES: reference::Rules = reference::Rules(0);
+
+/// A process for each call is what takes the time, and there is a wait in each.
+const WORKERS: usize = 4;
+
+/// What a program that calls the library has by itself.
+const STACK: usize = 8 << 20;
+
+enum Job {
+    Words,
+    Calls(Task),
+}
+
+/// What the program printed of a text: its sheet and the machines that thinning keeps.
+#[derive(Default)]
+struct Printed {
+    sheet: Vec<u8>,
+    kept: Option<Vec<usize>>,
+}
+
+fn compare(task: &Task, program: &Program, watchdog: &Watchdog, report: &Report) {
+    let text = task.text();
+    let (mut printed, mut split, mut class) = (Printed::default(), None, 0);
+    for (k, call) in task.calls.iter().enumerate() {
+        let expected = answer::expected(call, &text);
+        let told = Told::of(call, &expected);
+        let done = program.call(&call.words, &task.pieces, watchdog);
+        report.program(task, call, &text, &expected, &done);
+        let _watched = watchdog.function(call.shown(), &text);
+        report.library(task, &text, library::faults(call, &text, &told));
+        if k == 0 {
+            class = answer::class(&expected);
+            printed.sheet = done.stdout.clone();
+            split = (class == 0).then(|| Split::new(&text, &expected));
+        }
+        if let Some(split) = &split {
+            report.telling(&split.of(&call.numbers(&text), &told));
+        }
+        printed.kept = printed.kept.or_else(|| answer::kept(&done.stdout));
+    }
+    if [0, 11, 12].contains(&class) && report.is_first(&text) {
+        let walked = match class {
+            0 => walking::accepted(&text, &printed.sheet, printed.kept.as_deref()),
+            _ => walking::refused(&text),
+        };
+        report.walk(&text, class, walked);
+    }
+}
+
+fn work(jobs: &Mutex<Receiver<Job>>, program: &Program, report: &Report) {
+    let watchdog = Watchdog::new();
+    let next = || jobs.lock().expect("jobs").recv();
+    while let Ok(job) = next() {
+        match job {
+            Job::Words => words::compare(program, &watchdog, report),
+            Job::Calls(task) => compare(&task, program, &watchdog, report),
+        }
+    }
+}
+
+fn main() {
+    let arguments: Vec<String> = env::args().collect();
+    let [_, path, figures @ ..] = &arguments[..] else { panic!("compare PROGRAM SEED COUNT [FEWEST]") };
+    let figures: Vec<u64> = figures.iter().map(|word| word.parse().expect("a figure")).collect();
+    let [seed, count, ref fewest @ ..] = figures[..] else { panic!("compare PROGRAM SEED COUNT [FEWEST]") };
+    // Whatever goes wrong in a worker ends all.
+    let shown = panic::take_hook();
+    panic::set_hook(Box::new(move |info| {
+        shown(info);
+        process::exit(1);
+    }));
+    let (program, report) = (Program { path: path.clone() }, Report::default());
+    let (sender, jobs) = sync_channel(64);
+    let jobs = Mutex::new(jobs);
+    thread::scope(|scope| {
+        for _ in 0..WORKERS {
+            let worker = thread::Builder::new().stack_size(STACK);
+            worker.spawn_scoped(scope, || work(&jobs, &program, &report)).expect("a worker");
+        }
+        let tasks = fixed::all().into_iter().chain(generated::Tasks::new(seed, count as usize));
+        for job in std::iter::once(Job::Words).chain(tasks.map(Job::Calls)).take_while(|_| !report.gives_up()) {
+            sender.send(job).expect("a worker");
+        }
+        drop(sender);
+    });
+    report.print();
+    fewest.iter().for_each(|fewest| report.demand(*fewest as usize));
+    process::exit(i32::from(!report.ends()));
+}

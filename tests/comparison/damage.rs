@@ -1,0 +1,56 @@
+//! Texts in which a byte, a line or the end is not what it was.
+use crate::dice::Dice;
+use crate::draft::{TINY, Y};
+use crate::products::product;
+use crate::tiny::{loose, tiny};
+
+fn damaged_line(dice: &mut Dice, text: &[u8]) -> Vec<u8> {
+    let mut lines: Vec<&[u8]> = text.split_inclusive(|b| *b == b'\n').collect();
+    let (at, to) = (dice.below(lines.len()), dice.below(lines.len()));
+    match dice.below(6) {
+        0 => drop(lines.remove(at)),
+        1 => lines.insert(to, lines[at]),
+        2 => lines.swap(at, to),
+        3 => lines[at] = &lines[at][..dice.below(lines[at].len())],
+        _ => lines.truncate(at),
+    }
+    lines.concat()
+}
+
+fn damaged_somewhere(dice: &mut Dice, text: &[u8]) -> Vec<u8> {
+    let (at, to) = (dice.below(text.len()), dice.below(text.len()));
+    let known = dice.one(b"() \n\t\r-0123456789abemnopstxyzAZ");
+    let byte = if dice.once_in(4) { dice.below(256) as u8 } else { known };
+    let digits: Vec<usize> = (0..text.len()).filter(|at| text[*at].is_ascii_digit()).collect();
+    let mut text = text.to_vec();
+    match dice.below(9) {
+        0 => text[at] = byte,
+        1 => text.insert(at, byte),
+        2 => drop(text.remove(at)),
+        3 => text.swap(at, to),
+        4 => text[dice.one(&digits)] = dice.one(b"0123456789"),
+        5 => text.insert(dice.one(&digits), dice.one(b"0123456789")),
+        _ => text = damaged_line(dice, &text),
+    }
+    text
+}
+
+/// A text that would be accepted, or a small one, with one thing wrong: a bit turned over, the end cut off, a byte or a
+/// line that is not what it was.
+pub fn damaged(dice: &mut Dice) -> Vec<u8> {
+    let mut text = match dice.below(5) {
+        0 => Y.to_string(),
+        1 => tiny(dice).text(),
+        2 => loose(dice).text(),
+        3 => TINY.to_string(),
+        _ => product(dice, 6, false).drawn(dice).0.text(),
+    }
+    .into_bytes();
+    let at = dice.below(text.len());
+    match dice.below(5) {
+        0 => text[at] ^= 1 << dice.below(8),
+        1 => text.truncate(at),
+        _ => text = damaged_somewhere(dice, &text),
+    }
+    text
+}

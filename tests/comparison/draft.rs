@@ -1,0 +1,63 @@
+//! Texts as they are put together, and those that many others are made from.
+
+pub const Y: &str = "(states 4)\n(events ready brake home)\n(step 0 ready 1)\n(step 0 brake 2)\n(step 1 brake 3)\n\
+                     (step 2 ready 3)\n(step 3 home 0)\n(machine (0 2) (1 3))\n(machine (0 1) (2 3))\n";
+pub const Q: &str = "(states 3)\n(events ready brake)\n(step 0 ready 1)\n(step 0 brake 2)\n\
+                     (machine (0 2) (1))\n(machine (0 1) (2))\n";
+pub const ONE_STATE: &str = "(states 1)\n(events)\n(machine (0))\n";
+/// Every kind of line and of item in few bytes, for the texts that are many.
+pub const TINY: &str = "(states 3)\n(events a b-1)\n(step 0 a 1)\n(machine (0 2) (1))\n";
+
+/// Accepted by its third machine, which thinning keeps alone.
+pub fn q_with_third() -> String {
+    format!("{Q}(machine (0) (1 2))\n")
+}
+
+pub fn y_with_first_again() -> String {
+    format!("{Y}(machine (0 2) (1 3))\n")
+}
+
+/// A system and its machines; nothing of it need be within the bounds.
+#[derive(Default)]
+pub struct Draft {
+    pub states: usize,
+    pub events: Vec<String>,
+    pub steps: Vec<(usize, String, usize)>,
+    pub machines: Vec<Vec<Vec<usize>>>,
+}
+
+impl Draft {
+    pub fn text(&self) -> String {
+        let names: String = self.events.iter().map(|e| format!(" {e}")).collect();
+        let mut text = format!("(states {})\n(events{names})\n", self.states);
+        for (from, event, to) in &self.steps {
+            text += &format!("(step {from} {event} {to})\n");
+        }
+        for machine in &self.machines {
+            let figures = |place: &Vec<usize>| place.iter().map(usize::to_string).collect::<Vec<_>>().join(" ");
+            let places: String = machine.iter().map(|p| format!(" ({})", figures(p))).collect();
+            text += &format!("(machine{places})\n");
+        }
+        text
+    }
+}
+
+/// The text with its first `from` replaced; a `from` that is not there is a fault of these tests.
+pub fn with(text: &str, from: &str, to: &str) -> String {
+    assert!(text.contains(from), "no {from:?} in {text:?}");
+    text.replacen(from, to, 1)
+}
+
+/// Lines parted by bars.
+pub fn lines(text: &str) -> String {
+    text.replace('|', "\n") + "\n"
+}
+
+/// Names that are easily taken for one another: by length, by either half, by their last byte, by a sum of bytes.
+pub fn alike() -> Vec<String> {
+    let others = "b z ab ba ay c9 a- a0 a9 az aaaaaaab aaaaaaaab aaaaaaaba aaaaaaaaaaaaaaab aaaaaaaabaaaaaaa \
+                  aaaaaaabaaaaaaaa baaaaaaaaaaaaaaa bbbbbbbbaaaaaaaa aaaaaaaabbbbbbbb a--------------0 \
+                  a---------------";
+    let long = [1, 2, 3, 7, 8, 9, 15, 16].map(|n| "a".repeat(n));
+    long.into_iter().chain(others.split(' ').map(str::to_string)).collect()
+}

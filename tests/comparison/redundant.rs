@@ -1,0 +1,85 @@
+//! Splits in which some machines are needed and others add nothing, for thinning.
+use crate::dice::Dice;
+use crate::draft::Draft;
+use crate::products::{product, rings};
+use crate::RULES;
+use reference::{self, TEXT_BOUND};
+
+/// A tree of steps and some more, each with an event of its own: any division of the states then is a machine.
+fn without_machines(dice: &mut Dice, states: usize) -> Draft {
+    let before = |to: usize, dice: &mut Dice| if dice.once_in(3) { dice.below(to) } else { to - 1 };
+    let mut ends: Vec<(usize, usize)> = (1..states).map(|to| (before(to, dice), to)).collect();
+    ends.extend((0..dice.below(4)).map(|_| (dice.below(states), dice.below(states))));
+    ends.retain(|(from, to)| from != to);
+    dice.shuffle(&mut ends);
+    let events: Vec<String> = (0..ends.len()).map(|k| format!("e{k}")).collect();
+    let steps = ends.into_iter().zip(&events).map(|((from, to), event)| (from, event.clone(), to)).collect();
+    Draft { states, events, steps, machines: Vec::new() }
+}
+
+/// Up to four places.
+fn division(dice: &mut Dice, states: usize) -> Vec<Vec<usize>> {
+    let mut places = vec![Vec::new(); 2 + dice.below(3)];
+    for state in 0..states {
+        let at = dice.below(places.len());
+        dice.insert(&mut places[at], state);
+    }
+    places.retain(|place| !place.is_empty());
+    places
+}
+
+/// Machines at random until they suffice, and a few more.
+pub fn divided(dice: &mut Dice) -> Draft {
+    let states = 2 + dice.below(7);
+    let mut draft = without_machines(dice, states);
+    let accepted = |draft: &Draft| reference::check(RULES, draft.text().as_bytes(), TEXT_BOUND).is_ok();
+    while draft.machines.len() < 16 && !(accepted(&draft) && dice.once_in(3)) {
+        let machine = division(dice, states);
+        dice.insert(&mut draft.machines, machine);
+    }
+    draft
+}
+
+/// For each state that has a step a machine that parts it from the others. Each of these is needed.
+fn singled_out(dice: &mut Dice, draft: &mut Draft) {
+    let states = draft.states;
+    for state in (0..states).filter(|state| draft.steps.iter().any(|s| s.0 == *state)) {
+        let others = (0..states).filter(|other| *other != state).collect();
+        dice.insert(&mut draft.machines, vec![vec![state], others]);
+    }
+}
+
+pub fn sixteen_needed(dice: &mut Dice) -> Draft {
+    let (mut draft, _) = rings(&[16]).drawn(dice);
+    draft.machines.clear();
+    singled_out(dice, &mut draft);
+    draft
+}
+
+/// The machines that are needed, and up to two more.
+pub fn nearly_needed(dice: &mut Dice) -> Draft {
+    let states = 3 + dice.below(14);
+    let mut draft = without_machines(dice, states);
+    singled_out(dice, &mut draft);
+    for _ in 0..dice.one(&[0, 0, 1, 2]).min(16 - draft.machines.len()) {
+        let machine = division(dice, states);
+        dice.insert(&mut draft.machines, machine);
+    }
+    draft
+}
+
+/// A product and a few of its machines again: the same, or with two places in one.
+pub fn repeated(dice: &mut Dice) -> Draft {
+    let most = dice.one(&[3, 5, 8]);
+    let (mut draft, _) = product(dice, most, false).drawn(dice);
+    for _ in 0..(16 - draft.machines.len()).min(1 + dice.below(4)) {
+        let mut machine = dice.one(&draft.machines);
+        dice.shuffle(&mut machine);
+        if machine.len() > 2 && dice.once_in(2) {
+            let place = machine.remove(0);
+            machine[0].extend(place);
+        }
+        dice.insert(&mut draft.machines, machine);
+    }
+    draft
+}

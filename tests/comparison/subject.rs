@@ -1,0 +1,176 @@
+//! A text, and the arguments that fit it closely or do not: sizes that are lent, events, and lists of events.
+use crate::call::{call, lending, names, run, Call};
+use crate::dice::Dice;
+use crate::draft::alike;
+use crate::RULES;
+use reference::{self, Refusal, Step, TEXT_BOUND};
+
+/// Too large for any number of the machine; what is left of the second and the third if that goes unnoticed is 0 and 1.
+pub const HUGE: [&str; 3] = ["999999999999999999999999999999", "18446744073709551616", "18446744073709551617"];
+
+/// There are no names if line 2 is not what it should be, and no steps if the text is refused by 1 to 7.
+pub struct Subject {
+    pub text: Vec<u8>,
+    pub names: Vec<String>,
+    pub sheet: Result<Vec<u8>, Refusal>,
+    steps: Vec<Step>,
+}
+
+impl Subject {
+    pub fn new(text: impl Into<Vec<u8>>) -> Subject {
+        let text = text.into();
+        let names = names(&text);
+        let sheet = reference::check(RULES, &text, TEXT_BOUND);
+        let steps = reference::steps(RULES, &text, 1024).unwrap_or_default();
+        Subject { text, names, sheet, steps }
+    }
+
+    // ---- Sizes that are lent --------------------------------------------------------
+
+    /// None, one too few, just enough, one too many, and more.
+    fn rooms(needed: usize) -> Vec<String> {
+        let near = [0, needed.saturating_sub(1), needed, needed + 1, needed + 4];
+        near.iter().map(usize::to_string).chain(HUGE.map(String::from)).collect()
+    }
+
+    pub fn sheet_rooms(&self) -> Vec<String> {
+        Subject::rooms(self.sheet.as_ref().map_or(7, Vec::len))
+    }
+
+    pub fn step_rooms(&self) -> Vec<String> {
+        Subject::rooms(self.steps.len())
+    }
+
+    // ---- Events ---------------------------------------------------------------------
+
+    /// The first that are not declared, and figures of which the low bytes are 0 or all bits are set.
+    pub fn undeclared_figures(&self) -> Vec<String> {
+        let m = self.names.len();
+        let known = [m, m + 1, m.max(64), m.max(255), 256, 300, 1000, 65_536, 1 << 32, usize::MAX];
+        known.iter().map(usize::to_string).chain(HUGE.map(String::from)).collect()
+    }
+
+    /// Names that are close to those that are declared.
+    fn undeclared_names(&self) -> Vec<String> {
+        let longer = self.names.iter().map(|name| format!("{name:0<16}"));
+        let shorter = self.names.iter().filter(|name| name.len() > 1).map(|name| name[..name.len() - 1].to_string());
+        let near = alike().into_iter().chain(longer).chain(shorter);
+        near.filter(|name| name.len() <= 16 && !self.names.contains(name)).collect()
+    }
+
+    fn undeclared(&self, dice: &mut Dice) -> String {
+        let words = if dice.once_in(2) { self.undeclared_names() } else { self.undeclared_figures() };
+        dice.one(&words)
+    }
+
+    /// About half of the events asked for are declared.
+    pub fn event(&self, dice: &mut Dice) -> String {
+        let m = self.names.len();
+        if m == 0 || dice.once_in(2) {
+            return self.undeclared(dice);
+        }
+        let event = dice.below(m);
+        if dice.once_in(2) {
+            self.names[event].clone()
+        } else {
+            event.to_string()
+        }
+    }
+
+    // ---- Lists of events ------------------------------------------------------------
+
+    /// So many steps on from a state, or as far as there are any; and the state where that ends.
+    fn walk(&self, dice: &mut Dice, from: usize, size: usize) -> (Vec<usize>, usize) {
+        let (mut list, mut at) = (Vec::new(), from);
+        while list.len() < size {
+            let next: Vec<&Step> = self.steps.iter().filter(|s| s.from == at).collect();
+            if next.is_empty() {
+                break;
+            }
+            let step = dice.one(&next);
+            list.push(step.event);
+            at = step.to;
+        }
+        (list, at)
+    }
+
+    pub fn whole(&self, dice: &mut Dice, size: usize) -> Vec<usize> {
+        self.walk(dice, 0, size).0
+    }
+
+    /// A walk, an event that has no step where it ends (if there is one), and steps on from there.
+    pub fn blocked(&self, dice: &mut Dice, size: usize, after: usize) -> Vec<usize> {
+        let (mut list, at) = self.walk(dice, 0, size);
+        let runs = |event: usize| self.steps.iter().any(|s| s.from == at && s.event == event);
+        let others: Vec<usize> = (0..self.names.len()).filter(|event| !runs(*event)).collect();
+        if !others.is_empty() {
+            list.push(dice.one(&others));
+        }
+        list.extend(self.walk(dice, at, after).0);
+        list
+    }
+
+    /// As figures, as names, or by turns.
+    fn spelt(&self, dice: &mut Dice, list: &[usize]) -> Vec<String> {
+        let way = dice.below(4);
+        let mut word = |event: &usize| match self.names.get(*event) {
+            Some(name) if way == 0 || (way == 1 && dice.once_in(2)) => name.clone(),
+            _ => event.to_string(),
+        };
+        list.iter().map(&mut word).collect()
+    }
+
+    /// One event that is not declared, or two: at the start, at the end or between.
+    fn with_undeclared(&self, dice: &mut Dice, mut words: Vec<String>) -> Vec<String> {
+        for _ in 0..1 + dice.below(2) {
+            let at = [0, words.len(), dice.below(words.len() + 1)];
+            words.insert(dice.one(&at), self.undeclared(dice));
+        }
+        words
+    }
+
+    /// A walk, a walk that is blocked, events at random, none, or with some that are not declared.
+    pub fn list(&self, dice: &mut Dice) -> Vec<String> {
+        let [size, after] = [(); 2].map(|_| dice.one(&[0, 1, 2, 3, 5, 8, 13, 40]));
+        let kind = dice.below(12);
+        let list = match kind {
+            0..=3 | 11 => self.whole(dice, size),
+            4 => self.blocked(dice, size, 0),
+            5..=7 | 10 => self.blocked(dice, size, after),
+            _ => (0..size).map(|_| dice.below(self.names.len().max(1))).collect(),
+        };
+        let words = self.spelt(dice, &list);
+        if kind >= 10 {
+            self.with_undeclared(dice, words)
+        } else {
+            words
+        }
+    }
+
+    /// All lists of up to so many events, of those that are declared and the first that is not.
+    pub fn each_list(&self, size: usize) -> Vec<Vec<usize>> {
+        let longer = |list: &Vec<usize>| (0..=self.names.len()).map(|e| [&list[..], &[e]].concat()).collect::<Vec<_>>();
+        let (mut lists, mut longest) = (vec![Vec::new()], vec![Vec::new()]);
+        for _ in 0..size {
+            longest = longest.iter().flat_map(longer).collect();
+            lists.extend(longest.clone());
+        }
+        lists
+    }
+
+    // ---- Calls ----------------------------------------------------------------------
+
+    /// Check as it is and with a size; then one call of each of the others.
+    pub fn one_of_each(&self, dice: &mut Dice) -> Vec<Call> {
+        let [sheet, steps] = [self.sheet_rooms(), self.step_rooms()].map(|rooms| dice.one(&rooms));
+        let (event, list) = (self.event(dice), self.list(dice));
+        vec![
+            call("check"),
+            lending("check", Some(sheet)),
+            lending("steps", Some(steps).filter(|_| !dice.once_in(4))),
+            call(&format!("name {event}")),
+            run(&list),
+            call("thin"),
+        ]
+    }
+}
