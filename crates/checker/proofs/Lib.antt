@@ -1,4 +1,6 @@
--- The laws behind the check as far as 12.
+-- The laws behind the check as far as 10.
 
--- the verdicts on the transition system, on each machine and on all machines, put together
+-- the verdicts on the transition system and on each machine, put together
 pub mod Verdicts
+-- the same of rows
+pub mod Rows

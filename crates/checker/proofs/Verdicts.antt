@@ -1,4 +1,4 @@
--- The verdicts on the transition system, on each machine and on all machines together make one: the first that refuses.
+-- The verdicts on the transition system and on each machine make one: the first that refuses.
 use mathlib.Core.Path.{_≡_, refl, ap}
 use mathlib.Core.List.{[]}
 use mathlib.Core.Option.{none, Option·some-ne-none, orElse}
@@ -7,14 +7,14 @@ use Rattle.model.specs.Cases.{tabled}
 use Rattle.model.specs.Lists.{exists}
 use Rattle.model.specs.declared.Refusal as D
 use Rattle.model.specs.TransitionSystem.{TransitionSystem, unusedEvent, systemRefusal}
-use Rattle.model.specs.Machine.{Decomposition, machinesRefusal, coverRefusal}
+use Rattle.model.specs.Machine.{Decomposition, machinesRefusal}
 use Rattle.model.proofs.Laws.{orElse-none, map-none}
 use Rattle.state_set.proofs.Rows.{empty-row}
 use Rattle.reader.specs.declared.Verdict.{Verdict}
 use Rattle.reader.specs.declared.Verdict.the-variants.{Refused, Passed}
 use Rattle.reader.specs.Tables.{verdictRefusal}
 use Rattle.transition_system.specs.Sets.{Excitations}
-use Rattle.checker.specs.Order.{refusalTo12}
+use Rattle.checker.specs.Order.{refusalTo10}
 
 -- a verdict that refuses is none that lets pass
 pub refuses : {A : Type 0} (why : D.Refusal) → verdictRefusal (Refused why) ≡ none → A
@@ -27,19 +27,13 @@ lets-pass e = ap verdictRefusal e
 
 module _ (ts : TransitionSystem) (ms : Decomposition) where
   pub by-system : {r : Verdict} {why : D.Refusal} → verdictRefusal r ≡ systemRefusal ts → r ≡ Refused why
-      → verdictRefusal (Refused why) ≡ refusalTo12 ts ms
-  unfolding refusalTo12 orElse verdictRefusal
+      → verdictRefusal (Refused why) ≡ refusalTo10 ts ms
+  unfolding refusalTo10 orElse verdictRefusal
   by-system h e = rw (← h, e)
 
-  pub by-machines : {r : Verdict} {why : D.Refusal} → systemRefusal ts ≡ none → verdictRefusal r ≡ machinesRefusal ts 0 ms → r ≡ Refused why
-      → verdictRefusal (Refused why) ≡ refusalTo12 ts ms
-  unfolding refusalTo12 orElse verdictRefusal
-  by-machines n h e = rw (n, ← h, e)
-
-  pub by-cover : (r : Verdict) → systemRefusal ts ≡ none → machinesRefusal ts 0 ms ≡ none → verdictRefusal r ≡ coverRefusal ts ms
-      → verdictRefusal r ≡ refusalTo12 ts ms
-  unfolding refusalTo12 orElse
-  by-cover r n m h = rw (n, m) h
+  pub by-machines : (r : Verdict) → systemRefusal ts ≡ none → verdictRefusal r ≡ machinesRefusal ts 0 ms → verdictRefusal r ≡ refusalTo10 ts ms
+  unfolding refusalTo10 orElse
+  by-machines r n h = rw n h
 
 -- past 6 every event has a transition
 pub all-used : (ts : TransitionSystem) → systemRefusal ts ≡ none → unusedEvent ts ≡ none

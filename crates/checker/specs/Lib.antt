@@ -1,2 +1,2 @@
--- `Order`: refusals 4 to 12 in the fixed order.
+-- `Order`: refusals 4 to 10 in the fixed order.
 pub mod Order

@@ -11,23 +11,20 @@ use lib.Dec.{ltb, eqb}
 use lib.ListN.{length, take}
 use lib.Seq.{take-suc, take-length}
 use Rattle.model.specs.Lists.{At, exists, every, isSome, lowest}
-use Rattle.model.specs.Refusal.{refuse}
+use Rattle.model.specs.Refusal.{Refusal, refuse}
 use Rattle.model.specs.TransitionSystem.{TransitionSystem}
-use Rattle.model.specs.Machine.{Machine, Decomposition, placeOf, inAlphabet, effective, inPre, ready, common, openEvent, ineffectiveEvent, machinesRefusal, closureRefusal, coverRefusal}
+use Rattle.model.specs.Machine.{Machine, Decomposition, placeOf, inAlphabet, effective, inPre, ready, common, openEvent, ineffectiveEvent, closureRefusal, coverRefusal}
 use Rattle.model.proofs.Laws.{order}
 use Rattle.model.proofs.ListLaws.{every-append}
 use Rattle.model.proofs.Positions.{at-below, below-at, at-value}
-use Rattle.reader.specs.declared.Tables.{Tables}
+use Rattle.reader.specs.declared.Counts.{Counts}
 use Rattle.reader.specs.declared.Verdict.{Verdict}
 use Rattle.reader.specs.Tables.{verdictRefusal}
-use Rattle.reader.specs.Told.{entry, systemOf, below, MachinesTold}
-use Rattle.reader.specs.Bounded.{Bounded}
+use Rattle.reader.specs.Told.{entry, below}
 use Rattle.reader.proofs.Searches.{below-in, below-out, lowest-same}
 use Rattle.reader.proofs.Fronts.{exists-snoc}
-use Rattle.reader.proofs.Telling.{told-place}
-use Rattle.transition_system.specs.Sets.{Excitations}
 use Rattle.regions.specs.Moves.{moveAt, MovesTold}
-use Rattle.closure.specs.Covers.{PlaceSets, onMachine, onSome, meets, commonTo, openIn, openRefusal, CoverTold, Judges}
+use Rattle.closure.specs.Covers.{PlaceSets, onMachine, onSome, meets, commonTo, openIn, openRefusal, CoverTold, SetsTold, CoverJudged}
 use Rattle.closure.proofs.Selection.{effective-each, closure-same}
 
 every-snoc : {A : Type 0} (f : A → Bool) (l : List A) (x : A) → every f (l ++ (x ∷ [])) ≡ (every f l && f x)
@@ -43,7 +40,7 @@ isSome-cond false a = refl
 module _ {ts : TransitionSystem} {ms : Decomposition} {pre post : List ℕ} (moves : MovesTold ts ms pre post) where
   pub on-machine : (e k : ℕ) (m : Machine) → e < ts .events → At ms k m → onMachine pre e k ≡ inAlphabet ts e m
   unfolding onMachine inAlphabet moveAt
-  on-machine e k m l a = sym (isSome-cond (ltb (entry pre (k * 64 + e)) 64) _) ∙ ap isSome (moves .move k e m a l)
+  on-machine e k m l a = sym (isSome-cond (ltb (entry pre (e * 16 + k)) 64) _) ∙ ap isSome (moves .move k e m a l)
 
   pub on-first : (e n : ℕ) → e < ts .events → n ≤ length ms → onSome pre e n ≡ exists (inAlphabet ts e) (take n ms)
   unfolding onSome exists
@@ -62,15 +59,15 @@ module _ {ts : TransitionSystem} {ms : Decomposition} {pre post : List ℕ} (mov
   ineffective-same = lowest-same _ _ (ts .events) (λ e l. ap not (on-all e l))
 
 -- ---- 12 by the sets
-module _ {ts : TransitionSystem} {ms : Decomposition} {pre post sets excitations : List ℕ} (told : CoverTold ts ms pre post sets excitations) where
+module _ {ts : TransitionSystem} {ms : Decomposition} {pre post sets excitations : List ℕ} (told : SetsTold ts ms pre post sets excitations) where
   pub machine-ready : (e k i : ℕ) (m : Machine) → e < ts .events → i < ts .states → At ms k m → meets sets pre e k i ≡ ready ts e i m
   unfolding meets onMachine ready moveAt inPre
-  machine-ready e k i m l b a = go (ltb (entry pre (k * 64 + e)) 64) refl
+  machine-ready e k i m l b a = go (ltb (entry pre (e * 16 + k)) 64) refl
     where
-      go : (t : Bool) → ltb (entry pre (k * 64 + e)) 64 ≡ t → meets sets pre e k i ≡ ready ts e i m
+      go : (t : Bool) → ltb (entry pre (e * 16 + k)) 64 ≡ t → meets sets pre e k i ≡ ready ts e i m
       go true q =
           rw (q, sym (told .moves .move k e m a l), q)
-          (told .place k (entry pre (k * 64 + e)) i m a (ltb-true (entry pre (k * 64 + e)) 64 q) ∙ rw (lt-ltb i (ts .states) b))
+          (told .place k (entry pre (e * 16 + k)) i m a (ltb-true (entry pre (e * 16 + k)) 64 q) ∙ rw (lt-ltb i (ts .states) b))
       go false q = rw (q, sym (told .moves .move k e m a l), q)
 
   pub common-first : (e i n : ℕ) → e < ts .events → i < ts .states → n ≤ length ms → commonTo sets pre e n i ≡ every (ready ts e i) (take n ms)
@@ -89,7 +86,7 @@ module _ {ts : TransitionSystem} {ms : Decomposition} {pre post sets excitations
   pub meets-past : (e k i : ℕ) (m : Machine) → At ms k m → ts .states ≤ i → onMachine pre e k ≡ true → meets sets pre e k i ≡ false
   unfolding meets onMachine
   meets-past e k i m a b t =
-      rw t (told .place k (entry pre (k * 64 + e)) i m a (ltb-true (entry pre (k * 64 + e)) 64 t) ∙ rw (le-ltb i (ts .states) b))
+      rw t (told .place k (entry pre (e * 16 + k)) i m a (ltb-true (entry pre (e * 16 + k)) 64 t) ∙ rw (le-ltb i (ts .states) b))
 
   pub common-past : (e i n : ℕ) → ts .states ≤ i → n ≤ length ms → onSome pre e n ≡ true → commonTo sets pre e n i ≡ false
   unfolding commonTo onSome
@@ -109,46 +106,48 @@ module _ {ts : TransitionSystem} {ms : Decomposition} {pre post sets excitations
       closure-same ts ms excitations (told .excitations) (told .states) (told .events) (λ e. onSome pre e (length ms)) (λ e i. commonTo sets pre e (length ms) i)
       (on-all (told .moves)) common-all (λ e i l b. common-past e i (length ms) b (omega arith))
 
--- ---- what the tables tell
-module _ (p : Tables) (bounds : Bounded p) (ms : Decomposition) (pre post : List ℕ) (machines : MachinesTold (systemOf p) p ms)
-    (passed : machinesRefusal (systemOf p) 0 ms ≡ none) (moves : MovesTold (systemOf p) ms pre post) (event : ℕ)
-    (answer : below (p .events) event ≡ lowest (λ (e : ℕ). not (onSome pre e (p .machines))) (p .events)) (sets excitations : List ℕ) where
-  eleven : below (p .events) event ≡ ineffectiveEvent (systemOf p) ms
-  unfolding systemOf
-  eleven = (rw (machines .counted) at answer) ∙ ineffective-same moves
+-- ---- the places as sets
+pub sets-told : {ts : TransitionSystem} {ms : Decomposition} {pre post place sets excitations : List ℕ} {words machines : ℕ} → CoverTold ts ms pre post place excitations
+    → PlaceSets place (ts .states) words machines sets → machines ≡ length ms → SetsTold ts ms pre post sets excitations
+sets-told {ts} {ms} {place = place} told filled count =
+    record {
+      states = told .states;
+      events = told .events;
+      machines = told .machines;
+      moves = told .moves;
+      place = λ k q i m a l. filled .members k q i (omega (arith, at-below ms k m a, count)) l ∙ at k q i m a (order i (ts .states));
+      excitations = told .excitations;
+    }
+  where
+    at : (k q i : ℕ) (m : Machine) → At ms k m → (i < ts .states) ⊎ (ts .states ≤ i)
+        → (ltb i (ts .states) && eqb (entry place (k * 256 + i)) q) ≡ (ltb i (ts .states) && eqb (placeOf m i) q)
+    at k q i m a (inl b) = rw (told .places k i m a b)
+    at k q i m a (inr b) = rw (le-ltb i (ts .states) b)
 
-  pub cover-refused : {r : Verdict} → event < p .events → verdictRefusal r ≡ some (refuse 11 event 0) → Judges (systemOf p) ms pre post sets excitations r
+-- a refusal is none that lets pass
+pub no-pass : {A : Type 0} (r : Refusal) → some r ≡ none → A
+no-pass r h = absurd (Option·some-ne-none r h)
+
+-- ---- 11 and 12 by the rows
+module _ (c : Counts) {pre place excitations : List ℕ} (event : ℕ)
+    (answer : below (c .events) event ≡ lowest (λ (e : ℕ). not (onSome pre e (c .machines))) (c .events)) where
+  module _ {ts : TransitionSystem} {ms : Decomposition} {post : List ℕ} (told : CoverTold ts ms pre post place excitations) (labels : ts .events ≡ c .events)
+      (count : length ms ≡ c .machines) where
+    eleven : below (c .events) event ≡ ineffectiveEvent ts ms
+    eleven = answer ∙ rw (sym labels, sym count) (ineffective-same (told .moves))
+
+  pub cover-refused : {r : Verdict} → event < c .events → verdictRefusal r ≡ some (refuse 11 event 0) → CoverJudged c pre place excitations r
   unfolding coverRefusal orElse
   cover-refused l v =
-      record {
-        verdict = v ∙ rw (sym eleven, below-in (p .events) event l);
-        rows = λ n. absurd (Option·some-ne-none (refuse 11 event 0) (sym v ∙ n));
-      }
+      record { judges = λ ts ms post told states labels count. v ∙ rw (sym (eleven told labels count), below-in (c .events) event l) }
 
-  cover-told : Excitations (systemOf p .transitions) excitations → PlaceSets (p .place) (p .states) (p .machines) sets
-      → CoverTold (systemOf p) ms pre post sets excitations
-  unfolding systemOf
-  cover-told excited filled =
+  pub cover-passed : {r : Verdict} {words : ℕ} {sets : List ℕ} → c .events ≤ event → PlaceSets place (c .states) words (c .machines) sets
+      → verdictRefusal r ≡ openRefusal (openIn sets pre excitations (c .machines)) (c .events) → CoverJudged c pre place excitations r
+  unfolding coverRefusal orElse
+  cover-passed l filled v =
       record {
-        states = bounds .states;
-        events = bounds .events;
-        machines = omega (arith, bounds .machines, machines .counted);
-        moves = moves;
-        size = filled .size;
-        place = λ k q i m a l. filled .members k q i (omega (arith, at-below ms k m a, machines .counted)) l ∙ at k q i m a (order i (p .states));
-        excitations = excited;
+        judges = λ ts ms post told states labels count.
+            let n : ineffectiveEvent ts ms ≡ none = sym (eleven told labels count) ∙ below-out (c .events) event l in
+            let by-sets = sets-told told (rw (sym states) at filled) (sym count) in
+            v ∙ rw (n, sym labels, sym count) (all-closed by-sets (effective-each ts ms n));
       }
-    where
-      at : (k q i : ℕ) (m : Machine) → At ms k m → (i < p .states) ⊎ (p .states ≤ i)
-          → (ltb i (p .states) && eqb (entry (p .place) (k * 256 + i)) q) ≡ (ltb i (p .states) && eqb (placeOf m i) q)
-      at k q i m a (inl b) = rw (told-place machines passed (bounds .states) k i m a b)
-      at k q i m a (inr b) = rw (le-ltb i (p .states) b)
-
-  pub cover-passed :
-      {r : Verdict} → p .events ≤ event → Excitations (systemOf p .transitions) excitations → PlaceSets (p .place) (p .states) (p .machines) sets
-      → verdictRefusal r ≡ openRefusal (openIn sets pre excitations (p .machines)) (p .events) → Judges (systemOf p) ms pre post sets excitations r
-  unfolding coverRefusal systemOf orElse
-  cover-passed l excited filled v =
-      let told = cover-told excited filled in
-      let n : ineffectiveEvent (systemOf p) ms ≡ none = sym eleven ∙ below-out (p .events) event l in
-      record { verdict = v ∙ rw (n, machines .counted) (all-closed told (effective-each (systemOf p) ms n)); rows = λ _. told }

@@ -14,7 +14,7 @@ use Rattle.reader.proofs.Searches.{Upto, searched}
 use Rattle.closure.specs.Covers.{onMachine, onSome}
 
 -- the event is on the machine if its entry is a place
-pub on-entry : (pre : List ℕ) (e k : ℕ) {q : ℕ} → q ≡ entry pre (k * 64 + e) → ltb q 64 ≡ onMachine pre e k
+pub on-entry : (pre : List ℕ) (e k : ℕ) {q : ℕ} → q ≡ entry pre (e * 16 + k) → ltb q 64 ≡ onMachine pre e k
 unfolding onMachine
 on-entry pre e k v = rw v
 

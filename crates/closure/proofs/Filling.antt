@@ -9,7 +9,7 @@ use mathlib.Core.Bool.{Bool, false, _&&_, _||_, and-true, and-false, or-false}
 use mathlib.Core.List.{List}
 use borrow.Author.Tests.{lt-ltb, le-ltb, eq-eqb, ne-eqb}
 use lib.Dec.{eqb, ltb}
-use lib.ListN.{length, replicate}
+use lib.ListN.{length, replicate, length-replicate}
 use Rattle.model.proofs.Laws.{below-suc, order}
 use Rattle.state_set.specs.Rows.{memberAt, Inserted}
 use Rattle.state_set.proofs.Rows.{empty-row}
@@ -21,9 +21,9 @@ abbrev holds : List ℕ → ℕ → ℕ → ℕ → ℕ → Bool
 holds place m x q i = ltb i x && eqb (entry place (m * 256 + i)) q
 
 -- the sets of the machines before m are there, of machine m those of the first x states, and no others
-pub record Filling (place : List ℕ) (n m : ℕ) (sets : List ℕ) (x : ℕ) : Type 0 where
+pub record Filling (place : List ℕ) (n words m : ℕ) (sets : List ℕ) (x : ℕ) : Type 0 where
   pub most : x ≤ n
-  pub size : length sets ≡ 4096
+  pub size : length sets ≡ words
   pub done : (k q i : ℕ) → k < m → q < 64 → memberAt sets (k * 64 + q) i ≡ holds place k n q i
   pub here : (q i : ℕ) → q < 64 → memberAt sets (m * 64 + q) i ≡ holds place m x q i
   pub others : (j i : ℕ) → suc m * 64 ≤ j → memberAt sets j i ≡ false
@@ -40,8 +40,8 @@ one-more f x i = go (ℕ-discrete i x)
         same (inl l) = lt-ltb i (x + 1) (omega arith) ∙ sym (lt-ltb i x l)
         same (inr l) = le-ltb i (x + 1) (omega arith) ∙ sym (le-ltb i x l)
 
-module _ {place : List ℕ} {n m : ℕ} where
-  pub fill-start : {sets : List ℕ} → PlaceSets place n m sets → Filling place n m sets 0
+module _ {place : List ℕ} {n words m : ℕ} where
+  pub fill-start : {sets : List ℕ} → PlaceSets place n words m sets → Filling place n words m sets 0
   fill-start p =
       record {
         most = omega arith;
@@ -53,11 +53,11 @@ module _ {place : List ℕ} {n m : ℕ} where
 
   -- the next state is in no place
   pub fill-skip :
-      {sets next : List ℕ} {x q : ℕ} → Filling place n m sets x → x < n → q ≡ entry place (m * 256 + x) → 64 ≤ q → next ≡ sets
-      → Filling place n m next (x + 1)
+      {sets next : List ℕ} {x q : ℕ} → Filling place n words m sets x → x < n → q ≡ entry place (m * 256 + x) → 64 ≤ q → next ≡ sets
+      → Filling place n words m next (x + 1)
   fill-skip {sets} {next} {x} {q} f l v h e = rw e skipped
     where
-      skipped : Filling place n m sets (x + 1)
+      skipped : Filling place n words m sets (x + 1)
       skipped =
           record {
             most = omega arith;
@@ -72,8 +72,8 @@ module _ {place : List ℕ} {n m : ℕ} where
 
   -- or in place q, whose set it joins
   pub fill-more :
-      {sets new next : List ℕ} {x q s : ℕ} → Filling place n m sets x → x < n → q ≡ entry place (m * 256 + x) → q < 64 → s ≡ x
-      → Inserted (m * 64 + q) s sets new → next ≡ new → Filling place n m next (x + 1)
+      {sets new next : List ℕ} {x q s : ℕ} → Filling place n words m sets x → x < n → q ≡ entry place (m * 256 + x) → q < 64 → s ≡ x
+      → Inserted (m * 64 + q) s sets new → next ≡ new → Filling place n words m next (x + 1)
   fill-more {sets} {new} {next} {x} {q} {s} f l v h w p u = rw u filled
     where
       kept : (j i : ℕ) → ¬ (j ≡ m * 64 + q) → memberAt new j i ≡ memberAt sets j i
@@ -86,7 +86,7 @@ module _ {place : List ℕ} {n m : ℕ} where
           go (yes e) = eq-eqb (m * 64 + r) (m * 64 + q) (omega arith) ∙ sym (eq-eqb q r e)
           go (no o) = ne-eqb (m * 64 + r) (m * 64 + q) (λ e. o (omega arith)) ∙ sym (ne-eqb q r o)
 
-      filled : Filling place n m new (x + 1)
+      filled : Filling place n words m new (x + 1)
       filled =
           record {
             most = omega arith;
@@ -96,7 +96,7 @@ module _ {place : List ℕ} {n m : ℕ} where
             others = λ j i a. kept j i (λ e. omega arith) ∙ f .others j i a;
           }
 
-  pub fill-end : {sets : List ℕ} {x : ℕ} → Filling place n m sets x → n ≤ x → PlaceSets place n (suc m) sets
+  pub fill-end : {sets : List ℕ} {x : ℕ} → Filling place n words m sets x → n ≤ x → PlaceSets place n words (suc m) sets
   fill-end {sets} {x} f l = record { size = f .size; members = λ k q i b h. at k q i h (below-suc k m b); others = f .others }
     where
       all : x ≡ n
@@ -108,20 +108,22 @@ module _ {place : List ℕ} {n m : ℕ} where
 
 -- ---- machine by machine
 -- the sets of the first m machines, which are at most all
-pub record Made (place : List ℕ) (n machines : ℕ) (sets : List ℕ) (m : ℕ) : Type 0 where
+pub record Made (place : List ℕ) (n words machines : ℕ) (sets : List ℕ) (m : ℕ) : Type 0 where
   pub most : m ≤ machines
-  pub made : PlaceSets place n m sets
+  pub made : PlaceSets place n words m sets
 
-module _ {place : List ℕ} {n machines : ℕ} where
-  pub made-start : {sets : List ℕ} → PlaceSets place n 0 sets → Made place n machines sets 0
+module _ {place : List ℕ} {n words machines : ℕ} where
+  pub made-start : {sets : List ℕ} → PlaceSets place n words 0 sets → Made place n words machines sets 0
   made-start p = record { most = omega arith; made = p }
 
-  pub made-more : {sets : List ℕ} {m : ℕ} → m < machines → PlaceSets place n (suc m) sets → Made place n machines sets (m + 1)
-  made-more {sets} {m} l p = record { most = omega arith; made = rw (add-one m) p }
+  pub made-more : {sets next : List ℕ} {m : ℕ} → Made place n words machines sets m → m < machines → PlaceSets place n (length sets) (suc m) next
+      → Made place n words machines next (m + 1)
+  made-more {m = m} d l p = record { most = omega arith; made = rw (add-one m, sym (d .made .size)) p }
 
-  pub made-end : {sets : List ℕ} {m : ℕ} → Made place n machines sets m → machines ≤ m → PlaceSets place n machines sets
-  made-end {sets} {m} d l = let q : m ≡ machines = omega arith in subst (λ (k : ℕ). PlaceSets place n k sets) q (d .made)
+  pub made-end : {sets : List ℕ} {m : ℕ} → Made place n words machines sets m → machines ≤ m → PlaceSets place n words machines sets
+  made-end {sets} {m} d l = let q : m ≡ machines = omega arith in subst (λ (k : ℕ). PlaceSets place n words k sets) q (d .made)
 
 -- no machine yet
-pub no-machines : (place : List ℕ) (n : ℕ) → PlaceSets place n 0 (replicate 4096 0)
-no-machines place n = record { size = refl; members = λ k q i l h. absurd (omega arith); others = λ j i l. empty-row 4096 j i }
+pub no-machines : (place : List ℕ) (n words : ℕ) → PlaceSets place n words 0 (replicate words 0)
+no-machines place n words =
+    record { size = length-replicate {A = ℕ} words 0; members = λ k q i l h. absurd (omega arith); others = λ j i l. empty-row words j i }

@@ -17,18 +17,18 @@ use Rattle.reader.proofs.Searches.{lowest-same}
 use Rattle.closure.specs.Covers.{onMachine, meets, commonTo, openIn}
 
 -- ---- one machine
-module _ (sets pre : List ℕ) (e k : ℕ) {q : ℕ} (v : q ≡ entry pre (k * 64 + e)) where
+module _ (sets pre : List ℕ) (e k : ℕ) {q : ℕ} (v : q ≡ entry pre (e * 16 + k)) where
   -- the event has a pre-place, whose set is b
   pub meets-on :
       (a b c : StateSet) → q < 64 → b ≡ setAt sets (k * 64 + q) → ((i : ℕ) → member c i ≡ (member a i && member b i))
       → (i : ℕ) → member c i ≡ (member a i && meets sets pre e k i)
   unfolding meets onMachine memberAt
-  meets-on a b c l s w i = let t : entry pre (k * 64 + e) < 64 = omega arith in w i ∙ rw (lt-ltb (entry pre (k * 64 + e)) 64 t, s, v)
+  meets-on a b c l s w i = let t : entry pre (e * 16 + k) < 64 = omega arith in w i ∙ rw (lt-ltb (entry pre (e * 16 + k)) 64 t, s, v)
 
   -- or it is not on the machine
   pub meets-off : (a : StateSet) → 64 ≤ q → (i : ℕ) → member a i ≡ (member a i && meets sets pre e k i)
   unfolding meets onMachine
-  meets-off a l i = let t : 64 ≤ entry pre (k * 64 + e) = omega arith in rw (le-ltb (entry pre (k * 64 + e)) 64 t) (sym (and-true (member a i)))
+  meets-off a l i = let t : 64 ≤ entry pre (e * 16 + k) = omega arith in rw (le-ltb (entry pre (e * 16 + k)) 64 t) (sym (and-true (member a i)))
 
 -- ---- machine by machine
 -- the set has the states common to the pre-places on the first k machines

@@ -1,19 +1,19 @@
 // Refusals 11 and 12: the machines together.
 ghost use mathlib.Core.Path.{_≡_};
 ghost use mathlib.Core.Bool.{not, _&&_};
-ghost use Prim.Native.Nat.{ℕ, suc, _<_, _≤_};
+ghost use mathlib.Core.Option.{none};
+ghost use Prim.Native.Nat.{ℕ, suc, _*_, _<_, _≤_};
 ghost use lib.ListN.{length};
 ghost use Rattle.model.specs.Lists.{lowest};
 ghost use Rattle.state_set.specs.Member.{member, stateFound};
 ghost use Rattle.reader.specs.Tables.{verdictRefusal};
 ghost use Rattle.reader.specs.Told.{below};
-ghost use Rattle.reader.specs.Bounded.{Bounded};
-ghost use Rattle.closure.specs.Covers.{PlaceSets, onMachine, onSome, meets, commonTo, openIn, openRefusal, CoverJudged};
-use model::MAX_EVENTS;
+ghost use Rattle.closure.specs.Covers.{CountsBounded, PlaceSets, onMachine, onSome, meets, commonTo, openIn, openRefusal, CoverJudged};
+use model::MAX_MACHINES;
 use model::MAX_PLACES;
 use model::MAX_STATES;
 use model::Refusal;
-use reader::Tables;
+use reader::Counts;
 use reader::Verdict;
 use reader::narrow;
 use reader::wide;
@@ -25,13 +25,17 @@ use state_set::lowest;
 use state_set::meet;
 use state_set::without;
 
-// Four words for each place of each machine.
+// Four words for each place of each machine, and for each place of the few machines of a small text, which then clears no more.
 pub const PLACE_WORDS: usize = 4096;
+
+pub const FEW: usize = 2;
+
+pub const FEW_WORDS: usize = 512;
 
 // The places of machine m as sets, in one pass over its states.
 fn add_places(place: &[u8], n: usize, m: usize, sets: &mut [u64])
-    requires { ⌜ (n ≤ 256) × (m < 16) × (length (now place) ≡ 4096) × PlaceSets (now place) n m (now sets) ⌝ }
-    ensures { λ _. ⌜ PlaceSets (now (place .entry)) n (suc m) (now (sets .exit)) ⌝ }
+    requires { ⌜ (n ≤ 256) × (m < 16) × (suc m * 256 ≤ length (now sets)) × (length (now place) ≡ 4096) × PlaceSets (now place) n (length (now sets)) m (now sets) ⌝ }
+    ensures { λ _. ⌜ PlaceSets (now (place .entry)) n (length (now (sets .entry))) (suc m) (now (sets .exit)) ⌝ }
 {
     let from = m * MAX_STATES;
     let first = m * MAX_PLACES;
@@ -45,9 +49,10 @@ fn add_places(place: &[u8], n: usize, m: usize, sets: &mut [u64])
     }
 }
 
-fn add_machines(place: &[u8], n: usize, machines: usize, sets: &mut [u64])
-    requires { ⌜ (n ≤ 256) × (machines ≤ 16) × (length (now place) ≡ 4096) × PlaceSets (now place) n 0 (now sets) ⌝ }
-    ensures { λ _. ⌜ PlaceSets (now (place .entry)) n machines (now (sets .exit)) ⌝ }
+// The places of all machines as sets, in a row of empty sets.
+pub fn add_machines(place: &[u8], n: usize, machines: usize, sets: &mut [u64])
+    requires { ⌜ (n ≤ 256) × (machines ≤ 16) × (machines * 256 ≤ length (now sets)) × (length (now place) ≡ 4096) × PlaceSets (now place) n (length (now sets)) 0 (now sets) ⌝ }
+    ensures { λ _. ⌜ PlaceSets (now (place .entry)) n (length (now (sets .entry))) machines (now (sets .exit)) ⌝ }
 {
     let mut m = 0;
     while m < machines {
@@ -61,7 +66,7 @@ pub fn is_on(pre: &[u8], m: usize, e: usize) -> bool
     requires { ⌜ (m < 16) × (e < 64) × (length (now pre) ≡ 1024) ⌝ }
     ensures { λ r. ⌜ r ≡ onMachine (now (pre .entry)) e m ⌝ }
 {
-    wide(pre[m * MAX_EVENTS + e]) < MAX_PLACES
+    wide(pre[e * MAX_MACHINES + m]) < MAX_PLACES
 }
 
 // Event e is on one of the first machines.
@@ -96,10 +101,10 @@ fn ineffective_event(pre: &[u8], machines: usize, events: usize) -> usize
 
 // Those of these states that are in the pre-place of event e on machine m; all of them where e is not on it.
 pub fn meet_pre(common: StateSet, sets: &[u64], pre: &[u8], m: usize, e: usize) -> StateSet
-    requires { ⌜ (m < 16) × (e < 64) × (length (now sets) ≡ 4096) × (length (now pre) ≡ 1024) ⌝ }
+    requires { ⌜ (m < 16) × (e < 64) × (suc m * 256 ≤ length (now sets)) × (length (now pre) ≡ 1024) ⌝ }
     ensures { λ r. ⌜ ((i : ℕ) → member r i ≡ (member common i && meets (now (sets .entry)) (now (pre .entry)) e m i)) ⌝ }
 {
-    let q = wide(pre[m * MAX_EVENTS + e]);
+    let q = wide(pre[e * MAX_MACHINES + m]);
     if q < MAX_PLACES {
         return meet(common, load(sets, m * MAX_PLACES + q));
     }
@@ -108,7 +113,7 @@ pub fn meet_pre(common: StateSet, sets: &[u64], pre: &[u8], m: usize, e: usize) 
 
 // The states common to all pre-places of event e, over all machines.
 fn common_states(sets: &[u64], pre: &[u8], machines: usize, e: usize) -> StateSet
-    requires { ⌜ (machines ≤ 16) × (e < 64) × (length (now sets) ≡ 4096) × (length (now pre) ≡ 1024) ⌝ }
+    requires { ⌜ (machines ≤ 16) × (e < 64) × (machines * 256 ≤ length (now sets)) × (length (now pre) ≡ 1024) ⌝ }
     ensures { λ r. ⌜ ((i : ℕ) → member r i ≡ commonTo (now (sets .entry)) (now (pre .entry)) e machines i) ⌝ }
 {
     let mut common = StateSet::FULL;
@@ -122,7 +127,7 @@ fn common_states(sets: &[u64], pre: &[u8], machines: usize, e: usize) -> StateSe
 
 // 12 for event e: the lowest state common to its pre-places and outside its excitation set.
 fn open_state(sets: &[u64], pre: &[u8], excited: &[u64], machines: usize, e: usize) -> Found
-    requires { ⌜ (machines ≤ 16) × (e < 64) × (length (now sets) ≡ 4096) × (length (now pre) ≡ 1024) × (length (now excited) ≡ 256) ⌝ }
+    requires { ⌜ (machines ≤ 16) × (e < 64) × (machines * 256 ≤ length (now sets)) × (length (now pre) ≡ 1024) × (length (now excited) ≡ 256) ⌝ }
     ensures { λ r. ⌜ stateFound r ≡ openIn (now (sets .entry)) (now (pre .entry)) (now (excited .entry)) machines e ⌝ }
 {
     let common = common_states(sets, pre, machines, e);
@@ -138,7 +143,7 @@ fn check_closed(
     machines: usize,
     events: usize,
 ) -> Verdict
-    requires { ⌜ (machines ≤ 16) × (events ≤ 64) × (length (now sets) ≡ 4096) × (length (now pre) ≡ 1024) × (length (now excited) ≡ 256) ⌝ }
+    requires { ⌜ (machines ≤ 16) × (events ≤ 64) × (machines * 256 ≤ length (now sets)) × (length (now pre) ≡ 1024) × (length (now excited) ≡ 256) ⌝ }
     ensures { λ r. ⌜ verdictRefusal r ≡ openRefusal (openIn (now (sets .entry)) (now (pre .entry)) (now (excited .entry)) machines) events ⌝ }
 {
     let mut e = 0;
@@ -154,17 +159,38 @@ fn check_closed(
     Verdict::Passed
 }
 
-// 11, then 12. Passed, the rows have what 11 and 12 ask for, the places as sets among it.
-pub fn check_cover(p: Tables, excited: &[u64], pre: &[u8], sets: &mut [u64]) -> Verdict
-    requires { ⌜ Bounded p × (length (now excited) ≡ 256) × (length (now pre) ≡ 1024) × PlaceSets (p .place) (p .states) 0 (now sets) ⌝ }
-    ensures { λ r. ⌜ CoverJudged p (now (pre .entry)) (now (sets .exit)) (now (excited .entry)) r ⌝ }
+// 11, then 12, with a row of empty sets. Passed, it has the places as sets.
+pub fn check_cover_in(
+    c: Counts,
+    place: &[u8],
+    excited: &[u64],
+    pre: &[u8],
+    sets: &mut [u64],
+) -> Verdict
+    requires { ⌜ CountsBounded c × (length (now place) ≡ 4096) × (length (now excited) ≡ 256) × (length (now pre) ≡ 1024) ⌝ }
+    requires { ⌜ (c .machines * 256 ≤ length (now sets)) × PlaceSets (now place) (c .states) (length (now sets)) 0 (now sets) ⌝ }
+    ensures { λ r. ⌜ CoverJudged c (now (pre .entry)) (now (place .entry)) (now (excited .entry)) r ⌝ }
+    ensures { λ r. ⌜ (verdictRefusal r ≡ none → PlaceSets (now (place .entry)) (c .states) (length (now (sets .entry))) (c .machines) (now (sets .exit))) ⌝ }
 {
-    let machines = p.machines;
-    let events = p.events;
+    let machines = c.machines;
+    let events = c.events;
     let event = ineffective_event(pre, machines, events);
     if event < events {
         return Verdict::Refused(Refusal::IneffectiveEvent { event });
     }
-    add_machines(&p.place, p.states, machines, sets);
+    add_machines(place, c.states, machines, sets);
     check_closed(sets, pre, excited, machines, events)
+}
+
+// 11, then 12.
+pub fn check_cover(c: Counts, place: &[u8], excited: &[u64], pre: &[u8]) -> Verdict
+    requires { ⌜ CountsBounded c × (length (now place) ≡ 4096) × (length (now excited) ≡ 256) × (length (now pre) ≡ 1024) ⌝ }
+    ensures { λ r. ⌜ CoverJudged c (now (pre .entry)) (now (place .entry)) (now (excited .entry)) r ⌝ }
+{
+    if c.machines <= FEW {
+        let mut few = [0u64; FEW_WORDS];
+        return check_cover_in(c, place, excited, pre, &mut few);
+    }
+    let mut sets = [0u64; PLACE_WORDS];
+    check_cover_in(c, place, excited, pre, &mut sets)
 }

@@ -18,7 +18,7 @@ use Rattle.model.proofs.ListLaws.{exists-append, every-append, not-empty}
 use Rattle.state_set.specs.Rows.{memberAt}
 use Rattle.state_set.proofs.Sets.{fullWord}
 use Rattle.state_set.proofs.Rows.{full-row}
-use Rattle.closure.specs.Covers.{onMachine, onSome, meets, CoverTold}
+use Rattle.closure.specs.Covers.{onMachine, onSome, meets, SetsTold}
 use Rattle.closure.proofs.Selection.{covers-all, covers-each}
 use Rattle.closure.proofs.Cover.{on-machine, on-first, machine-ready, common-first, meets-past, common-past}
 use Rattle.irredundant.specs.Kept.{noneBelow, Below, Adds, coveredWithout, redundant}
@@ -50,7 +50,7 @@ tells-none ts small few =
     off : (e : ℕ) → e < ts .events → getD (replicate 64 false) e false ≡ false
     off e l = getD-replicate 64 e false false (omega arith)
 
-module _ {ts : TransitionSystem} {ms : Decomposition} {pre post sets excited : List ℕ} (told : CoverTold ts ms pre post sets excited) (k : ℕ)
+module _ {ts : TransitionSystem} {ms : Decomposition} {pre post sets excited : List ℕ} (told : SetsTold ts ms pre post sets excited) (k : ℕ)
     {above : List ℕ} {onAbove : List Bool} {ds : Decomposition} (rows : Tells ts ds above onAbove) where
   -- one machine more
   pub tells-more : {above2 : List ℕ} {onAbove2 : List Bool} (m : Machine) → At ms k m

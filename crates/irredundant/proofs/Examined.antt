@@ -5,6 +5,7 @@ use native.Mathlib.Omega.{arith}
 use mathlib.Core.Path.{_≡_, refl, sym, ap, _∙_}
 use mathlib.Core.Bool.{Bool, true, false, not}
 use mathlib.Core.List.{List, [], _∷_}
+use mathlib.Core.Option.{none}
 use mir.Val.{boolByte}
 use lib.ListN.{length, getD, drop, replicate, length-drop}
 use lib.Pow.{pow-pos, pow-mono}
@@ -15,8 +16,16 @@ use Rattle.model.specs.Machine.{Machine, Decomposition, keptMarks, select, suff
 use Rattle.model.proofs.Kept.{kept-length, kept-examined, select-count}
 use Rattle.model.proofs.Positions.{below-at, at-value}
 use Rattle.state_set.proofs.Sets.{fullWord}
-use Rattle.closure.specs.Covers.{CoverTold}
-use Rattle.irredundant.specs.Kept.{setNumber, Thins, Below, Adds, redundant}
+use Rattle.model.specs.declared.Refusal as D
+use Rattle.reader.specs.declared.Counts.{Counts}
+use Rattle.reader.specs.declared.Verdict.{Verdict}
+use Rattle.reader.specs.declared.Verdict.the-variants.{Refused, Passed}
+use Rattle.reader.specs.Tables.{verdictRefusal}
+use Rattle.closure.specs.Covers.{PlaceSets, SetsTold, CoverJudged}
+use Rattle.closure.proofs.Cover.{sets-told}
+use Rattle.irredundant.specs.declared.Kept.{Kept}
+use Rattle.irredundant.specs.declared.Reduction.the-variants as R
+use Rattle.irredundant.specs.Kept.{setNumber, ThinsTo, ThinsBySets, Thins, Below, Adds, redundant}
 use Rattle.irredundant.proofs.Beside.{Tells, tells-none, tells-more, select-without, suffices-same}
 
 -- the rows once a machine is examined: those with it if it stays, or those that there were
@@ -50,7 +59,7 @@ unfolding count
 count-more true marks v = omega arith
 count-more false marks v = omega arith
 
-module _ {ts : TransitionSystem} {ms : Decomposition} {pre post sets excited : List ℕ} (told : CoverTold ts ms pre post sets excited) where
+module _ {ts : TransitionSystem} {ms : Decomposition} {pre post sets excited : List ℕ} (told : SetsTold ts ms pre post sets excited) where
   examined-none : Examined ts ms (replicate 256 fullWord) (replicate 64 false) 0 0 (length ms)
   unfolding setNumber count select
   examined-none = record { number = rw no-marks; counted = rw no-marks; rows = rw no-marks (tells-none ts (told .states) (told .events)) }
@@ -109,7 +118,7 @@ pub record Thinning (excited sets pre : List ℕ) (machines events : ℕ) (above
   pub low : kept < 2 ^ (machines - left)
   pub above-size : length above ≡ 256
   pub on-size : length onAbove ≡ 64
-  pub marks : (ts : TransitionSystem) (ms : Decomposition) (post : List ℕ) → CoverTold ts ms pre post sets excited → machines ≡ length ms
+  pub marks : (ts : TransitionSystem) (ms : Decomposition) (post : List ℕ) → SetsTold ts ms pre post sets excited → machines ≡ length ms
       → events ≡ ts .events → Examined ts ms above onAbove kept size left
 
 pub byte-small : (b : Bool) → boolByte b ≤ 1
@@ -158,11 +167,29 @@ module _ {excited sets pre : List ℕ} {machines events : ℕ} where
 
   pub thin-end : {above : List ℕ} {onAbove : List Bool} {kept size left : ℕ}
       → Thinning excited sets pre machines events above onAbove kept size left → left ≤ 0
-      → Thins pre sets excited machines events record { machines = kept; size = size }
+      → ThinsBySets pre sets excited machines events record { machines = kept; size = size }
   thin-end {left = left} t l =
       let q : left ≡ 0 = omega arith in
       record {
         keeps = λ ts ms post told a b.
             let x = t .marks ts ms post told a b in
             record { machines = x .number ∙ rw q; size = x .counted ∙ rw q };
+      }
+
+-- ---- 11 and 12, and then what is kept
+module _ {c : Counts} {pre place excited : List ℕ} {v : Verdict} (judged : CoverJudged c pre place excited v) where
+  pub thin-refused : {why : D.Refusal} → v ≡ Refused why → Thins c pre place excited (R.Refused why)
+  unfolding ThinsTo verdictRefusal
+  thin-refused e = record { thins = λ ts ms post told a b d. sym (judged .judges ts ms post told a b d) ∙ ap verdictRefusal e }
+
+  pub thin-kept : {words : ℕ} {sets : List ℕ} {k : Kept} → v ≡ Passed → (verdictRefusal v ≡ none → PlaceSets place (c .states) words (c .machines) sets)
+      → ThinsBySets pre sets excited (c .machines) (c .events) k → Thins c pre place excited (R.To k)
+  unfolding ThinsTo verdictRefusal
+  thin-kept e filled t =
+      record {
+        thins = λ ts ms post told a b d.
+            let sets = filled (ap verdictRefusal e) in (
+              sym (judged .judges ts ms post told a b d) ∙ ap verdictRefusal e,
+              t .keeps ts ms post (sets-told told (rw (sym a) at sets) (sym d)) (sym d) (sym b),
+            );
       }

@@ -13,7 +13,7 @@ use Rattle.state_set.specs.Rows.{setAt, memberAt, Stored}
 use Rattle.state_set.proofs.Sets.{fullWord}
 use Rattle.state_set.proofs.Rows.{stored-here, stored-else, full-row}
 use Rattle.closure.specs.Covers.{meets, commonTo}
-use Rattle.irredundant.specs.Kept.{Extends, Below}
+use Rattle.irredundant.specs.Kept.{Extends, AllStates, Below}
 
 -- ---- one machine, event by event
 -- the sets of machine m + 1 are there for the first e events, and those before are as they were
@@ -51,37 +51,40 @@ module _ {sets pre : List ℕ} {m events : ℕ} {old : List ℕ} where
   extend-end x l = record { size = x .size; next = λ j i h. x .next j i (omega arith); before = x .before }
 
 -- ---- machine by machine
--- the sets of the first m machines, which are at least one
-pub record Extended (sets pre : List ℕ) (events : ℕ) (row : List ℕ) (m : ℕ) : Type 0 where
+-- the sets of the first m machines, which are at least one, in a row as long as the old one
+pub record Extended (sets pre : List ℕ) (events : ℕ) (old row : List ℕ) (m : ℕ) : Type 0 where
   pub one : 1 ≤ m
   pub most : m ≤ 16
+  pub size : length row ≡ length old
   pub made : Below sets pre m events row
 
--- no machine is before the first, so all states are common
-pub below-first : (sets pre : List ℕ) (events : ℕ) → events ≤ 64 → Below sets pre 1 events (replicate 4096 fullWord)
-unfolding commonTo
-below-first sets pre events few = record { size = refl; common = λ k e i l b. at k e i b (omega arith) }
-  where
-    at : (k e i : ℕ) → e < events → k ≡ 0 → memberAt (replicate 4096 fullWord) (k * 64 + e) i ≡ commonTo sets pre e k i
-    at k e i b q = rw q (full-row 4096 (0 * 64 + e) i (omega arith))
+pub all-states : (words : ℕ) → 256 ≤ words → AllStates (replicate words fullWord)
+all-states words l = record { full = λ e i h. full-row words e i (omega arith) }
 
-module _ {sets pre : List ℕ} {events : ℕ} where
-  pub below-start : {row : List ℕ} → Below sets pre 1 events row → Extended sets pre events row 1
-  below-start b = record { one = omega arith; most = omega arith; made = b }
+module _ {sets pre : List ℕ} {events : ℕ} {old : List ℕ} where
+  -- no machine is before the first, so all states are common
+  pub below-start : events ≤ 64 → AllStates old → Extended sets pre events old old 1
+  unfolding commonTo
+  below-start few all =
+      record { one = omega arith; most = omega arith; size = refl; made = record { common = λ k e i l b. at k e i b (omega arith) } }
+    where
+      at : (k e i : ℕ) → e < events → k ≡ 0 → memberAt old (k * 64 + e) i ≡ commonTo sets pre e k i
+      at k e i b q = let z : 0 * 64 + e ≡ e = omega arith in rw (q, z) (all .full e i (omega arith))
 
-  pub below-more : {row row2 : List ℕ} {m n : ℕ} → events ≤ 64 → Extended sets pre events row m → m < 16 → m ≡ suc n → Extends sets pre n events row row2
-      → Extended sets pre events row2 (m + 1)
+  pub below-more : {row row2 : List ℕ} {m n : ℕ} → events ≤ 64 → Extended sets pre events old row m → m < 16 → m ≡ suc n
+      → Extends sets pre n events row row2 → Extended sets pre events old row2 (m + 1)
   unfolding commonTo
   below-more {row} {row2} {m} {n} small x l q g =
       record {
         one = omega arith;
         most = omega arith;
-        made = record { size = g .size ∙ x .made .size; common = λ k e i h b. at k e i b (below-suc k m (omega arith)) };
+        size = g .size ∙ x .size;
+        made = record { common = λ k e i h b. at k e i b (below-suc k m (omega arith)) };
       }
     where
       at : (k e i : ℕ) → e < events → (k < m) ⊎ (k ≡ m) → memberAt row2 (k * 64 + e) i ≡ commonTo sets pre e k i
       at k e i b (inl h) = g .before (k * 64 + e) i (omega arith) ∙ x .made .common k e i h b
       at k e i b (inr h) = rw (h, q) (g .next e i b ∙ rw (x .made .common n e i (omega arith) b))
 
-  pub below-end : {row : List ℕ} {m machines : ℕ} → Extended sets pre events row m → machines ≤ m → Below sets pre machines events row
-  below-end x l = record { size = x .made .size; common = λ k e i h b. x .made .common k e i (omega arith) b }
+  pub below-end : {row : List ℕ} {m machines : ℕ} → Extended sets pre events old row m → machines ≤ m → Below sets pre machines events row
+  below-end x l = record { common = λ k e i h b. x .made .common k e i (omega arith) b }

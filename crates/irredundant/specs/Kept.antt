@@ -1,16 +1,21 @@
 -- The set of kept machines as a number, and how the rows tell whether a machine is redundant.
-use Prim.Native.Nat.{ℕ, suc, _+_, _*_, _<_}
+use Prim.Native.Nat.{ℕ, suc, _+_, _*_, _<_, _≤_}
 use mathlib.Core.Path.{_≡_}
 use mathlib.Core.Bool.{Bool, false, not, cond, _&&_, _||_}
 use mathlib.Core.List.{List, [], _∷_}
+use mathlib.Core.Option.{none, some}
 use lib.Dec.{ltb}
 use lib.ListN.{length, getD}
 use Rattle.model.specs.Lists.{count, isSome, lowest}
 use Rattle.model.specs.TransitionSystem.{TransitionSystem}
-use Rattle.model.specs.Machine.{Decomposition, keptMarks}
+use Rattle.model.specs.Cases.{tabled}
+use Rattle.model.specs.Machine.{Decomposition, coverRefusal, keptMarks}
 use Rattle.state_set.specs.Rows.{memberAt}
-use Rattle.closure.specs.Covers.{onMachine, onSome, meets, commonTo, CoverTold}
+use Rattle.closure.specs.Covers.{onMachine, onSome, meets, commonTo, CoverTold, SetsTold}
+use Rattle.reader.specs.declared.Counts.{Counts}
 use Rattle.irredundant.specs.declared.Kept.{Kept}
+use Rattle.irredundant.specs.declared.Reduction.{Reduction}
+use Rattle.irredundant.specs.declared.Reduction.the-variants.{Refused, To}
 
 -- the set of machines that marks give as a number: bit i is machine i
 unfoldable pub setNumber : List Bool → ℕ
@@ -22,29 +27,40 @@ pub record Keeps (ts : TransitionSystem) (ms : Decomposition) (r : Kept) : Type 
   pub machines : r .machines ≡ setNumber (keptMarks ts ms)
   pub size : r .size ≡ count (λ b. b) (keptMarks ts ms)
 
--- r is what Thin keeps of any machines that the rows tell
-pub record Thins (pre sets excited : List ℕ) (machines events : ℕ) (r : Kept) : Type 0 where
-  pub keeps : (ts : TransitionSystem) (ms : Decomposition) (post : List ℕ) → CoverTold ts ms pre post sets excited → machines ≡ length ms
+-- what Thin answers of machines: the refusal by 11 or 12, or what it keeps
+unfoldable pub ThinsTo : TransitionSystem → Decomposition → Reduction → Type 0
+ThinsTo ts ms (Refused why) = coverRefusal ts ms ≡ some (tabled why)
+ThinsTo ts ms (To k) = (coverRefusal ts ms ≡ none) × Keeps ts ms k
+
+-- r is what Thin answers of any machines that the rows tell
+pub record Thins (c : Counts) (pre place excited : List ℕ) (r : Reduction) : Type 0 where
+  pub thins : (ts : TransitionSystem) (ms : Decomposition) (post : List ℕ) → CoverTold ts ms pre post place excited → ts .states ≡ c .states
+      → ts .events ≡ c .events → length ms ≡ c .machines → ThinsTo ts ms r
+
+-- r is what Thin keeps of machines that pass 11 and 12, with the places as sets
+pub record ThinsBySets (pre sets excited : List ℕ) (machines events : ℕ) (r : Kept) : Type 0 where
+  pub keeps : (ts : TransitionSystem) (ms : Decomposition) (post : List ℕ) → SetsTold ts ms pre post sets excited → machines ≡ length ms
       → events ≡ ts .events → Keeps ts ms r
 
 -- no number below n passes the test
 unfoldable pub noneBelow : (ℕ → Bool) → ℕ → Bool
 noneBelow f n = not (isSome (lowest f n))
 
-pub record Sizes (sets pre below : List ℕ) : Type 0 where
-  pub sets-size : length sets ≡ 4096
+-- the rows have sets for so many machines
+pub record Sizes (machines : ℕ) (sets pre below : List ℕ) : Type 0 where
+  pub sets-size : machines * 256 ≤ length sets
   pub pre-size : length pre ≡ 1024
-  pub below-size : length below ≡ 4096
+  pub below-size : machines * 256 ≤ length below
 
 -- the sizes of the rows of the kept machines
 pub record AboveSizes (above : List ℕ) (onAbove : List Bool) : Type 0 where
   pub above-size : length above ≡ 256
   pub on-size : length onAbove ≡ 64
 
--- the sizes of the rows that tell whether a machine is redundant
-pub record BesideSizes (pre below above : List ℕ) (onAbove : List Bool) (excited : List ℕ) : Type 0 where
+-- the sizes of the rows that tell whether machine m is redundant
+pub record BesideSizes (m : ℕ) (pre below above : List ℕ) (onAbove : List Bool) (excited : List ℕ) : Type 0 where
   pub pre-size : length pre ≡ 1024
-  pub below-size : length below ≡ 4096
+  pub below-size : m * 256 + 256 ≤ length below
   pub kept : AboveSizes above onAbove
   pub excited-size : length excited ≡ 256
 
@@ -54,9 +70,12 @@ pub record Extends (sets pre : List ℕ) (m events : ℕ) (old new : List ℕ) :
   pub next : (e i : ℕ) → e < events → memberAt new (suc m * 64 + e) i ≡ (memberAt old (m * 64 + e) i && meets sets pre e m i)
   pub before : (j i : ℕ) → j < suc m * 64 → memberAt new j i ≡ memberAt old j i
 
+-- the first set of each event has all states
+pub record AllStates (row : List ℕ) : Type 0 where
+  pub full : (e i : ℕ) → e < 64 → memberAt row e i ≡ ltb i 256
+
 -- set k * 64 + e has the states common to the pre-places of event e on the machines before k
 pub record Below (sets pre : List ℕ) (machines events : ℕ) (row : List ℕ) : Type 0 where
-  pub size : length row ≡ 4096
   pub common : (k e i : ℕ) → k < machines → e < events → memberAt row (k * 64 + e) i ≡ commonTo sets pre e k i
 
 -- machine m is one of those that have an event and whose pre-places are met

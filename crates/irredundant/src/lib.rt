@@ -1,13 +1,20 @@
 // Thin: which machines are kept.
 ghost use mathlib.Core.Path.{_≡_};
-ghost use Prim.Native.Nat.{_<_, _≤_};
+ghost use Prim.Native.Nat.{_*_, _+_, _<_, _≤_};
 ghost use lib.ListN.{length};
-ghost use Rattle.irredundant.specs.Kept.{Sizes, AboveSizes, BesideSizes, Extends, Below, Adds, coveredWithout, redundant, Thins};
+ghost use Rattle.closure.specs.Covers.{CountsBounded, PlaceSets};
+ghost use Rattle.irredundant.specs.Kept.{Sizes, AboveSizes, BesideSizes, Extends, AllStates, Below, Adds, coveredWithout, redundant, ThinsBySets, Thins};
+use closure::FEW;
+use closure::FEW_WORDS;
 use closure::PLACE_WORDS;
+use closure::check_cover_in;
 use closure::is_effective;
 use closure::is_on;
 use closure::meet_pre;
 use model::MAX_EVENTS;
+use model::Refusal;
+use reader::Counts;
+use reader::Verdict;
 use state_set::FULL_WORD;
 use state_set::Found;
 use state_set::load;
@@ -25,7 +32,7 @@ pub struct Kept {
 
 // The states common to the pre-places of each event on the machines before m + 1, from those on the machines before m.
 fn extend(sets: &[u64], pre: &[u8], m: usize, events: usize, below: &mut [u64])
-    requires { ⌜ (m < 15) × (events ≤ 64) × Sizes (now sets) (now pre) (now below) ⌝ }
+    requires { ⌜ (m < 15) × (events ≤ 64) × Sizes (m + 2) (now sets) (now pre) (now below) ⌝ }
     ensures { λ _. ⌜ Extends (now (sets .entry)) (now (pre .entry)) m events (now (below .entry)) (now (below .exit)) ⌝ }
 {
     let from = m * MAX_EVENTS;
@@ -43,7 +50,7 @@ fn extend(sets: &[u64], pre: &[u8], m: usize, events: usize, below: &mut [u64])
 
 // At k * 64 + e the states common to the pre-places of event e on the machines before k.
 fn meet_below(sets: &[u64], pre: &[u8], machines: usize, events: usize, below: &mut [u64])
-    requires { ⌜ (machines ≤ 16) × (events ≤ 64) × Sizes (now sets) (now pre) (now below) × Below (now sets) (now pre) 1 events (now below) ⌝ }
+    requires { ⌜ (machines ≤ 16) × (events ≤ 64) × Sizes machines (now sets) (now pre) (now below) × AllStates (now below) ⌝ }
     ensures { λ _. ⌜ Below (now (sets .entry)) (now (pre .entry)) machines events (now (below .exit)) ⌝ }
 {
     let mut m = 1;
@@ -62,7 +69,7 @@ fn add_machine(
     above: &mut [u64],
     on_above: &mut [bool],
 )
-    requires { ⌜ (m < 16) × (events ≤ 64) × (length (now sets) ≡ 4096) × (length (now pre) ≡ 1024) × AboveSizes (now above) (now «on_above») ⌝ }
+    requires { ⌜ (m < 16) × (events ≤ 64) × (m * 256 + 256 ≤ length (now sets)) × (length (now pre) ≡ 1024) × AboveSizes (now above) (now «on_above») ⌝ }
     ensures { λ _. ⌜ Adds (now (sets .entry)) (now (pre .entry)) m events (now (above .entry)) (now («on_above» .entry))
         (now (above .exit)) (now («on_above» .exit)) ⌝ }
 {
@@ -85,7 +92,7 @@ fn is_covered(
     m: usize,
     e: usize,
 ) -> bool
-    requires { ⌜ (m < 16) × (e < 64) × BesideSizes (now pre) (now below) (now above) (now «on_above») (now excited) ⌝ }
+    requires { ⌜ (m < 16) × (e < 64) × BesideSizes m (now pre) (now below) (now above) (now «on_above») (now excited) ⌝ }
     ensures { λ r. ⌜ r ≡ coveredWithout (now (pre .entry)) (now (below .entry)) (now (above .entry)) (now («on_above» .entry)) (now (excited .entry)) m e ⌝ }
 {
     if !on_above[e] {
@@ -112,7 +119,7 @@ fn is_redundant(
     m: usize,
     events: usize,
 ) -> bool
-    requires { ⌜ (m < 16) × (events ≤ 64) × BesideSizes (now pre) (now below) (now above) (now «on_above») (now excited) ⌝ }
+    requires { ⌜ (m < 16) × (events ≤ 64) × BesideSizes m (now pre) (now below) (now above) (now «on_above») (now excited) ⌝ }
     ensures { λ r. ⌜ r ≡ redundant (now (pre .entry)) (now (below .entry)) (now (above .entry)) (now («on_above» .entry)) (now (excited .entry)) others m events ⌝ }
 {
     if others < 1 {
@@ -129,18 +136,18 @@ fn is_redundant(
 }
 
 // From the highest machine to the lowest: one that is redundant beside those still kept is dropped.
-pub fn remove_redundant(
-    excited: &[u64],
+fn drop_redundant(
     sets: &[u64],
     pre: &[u8],
+    below: &[u64],
+    excited: &[u64],
     machines: usize,
     events: usize,
 ) -> Kept
-    requires { ⌜ (machines ≤ 16) × (events ≤ 64) × (length (now excited) ≡ 256) × (length (now sets) ≡ 4096) × (length (now pre) ≡ 1024) ⌝ }
-    ensures { λ r. ⌜ Thins (now (pre .entry)) (now (sets .entry)) (now (excited .entry)) machines events r ⌝ }
+    requires { ⌜ (machines ≤ 16) × (events ≤ 64) × Sizes machines (now sets) (now pre) (now below) × (length (now excited) ≡ 256) ⌝ }
+    requires { ⌜ Below (now sets) (now pre) machines events (now below) ⌝ }
+    ensures { λ r. ⌜ ThinsBySets (now (pre .entry)) (now (sets .entry)) (now (excited .entry)) machines events r ⌝ }
 {
-    let mut below = [FULL_WORD; PLACE_WORDS];
-    meet_below(sets, pre, machines, events, &mut below);
     let mut above = [FULL_WORD; EXCITATION_WORDS];
     let mut on_above = [false; MAX_EVENTS];
     let mut kept = 0u16;
@@ -149,7 +156,7 @@ pub fn remove_redundant(
     while 0 < left {
         let m = left - 1;
         let others = m + size;
-        let stays = !is_redundant(pre, &below, &above, &on_above, excited, others, m, events);
+        let stays = !is_redundant(pre, below, &above, &on_above, excited, others, m, events);
         if stays {
             add_machine(sets, pre, m, events, &mut above, &mut on_above);
         }
@@ -161,4 +168,50 @@ pub fn remove_redundant(
         machines: kept,
         size,
     }
+}
+
+// What Thin answers: the refusal by 11 or 12, or the machines that are kept.
+pub enum Reduction {
+    Refused(Refusal),
+    To(Kept),
+}
+
+// Thin with two rows that are lent: `sets` for the places as sets, `below` for the states common to pre-places.
+fn thin(
+    c: Counts,
+    place: &[u8],
+    excited: &[u64],
+    pre: &[u8],
+    sets: &mut [u64],
+    below: &mut [u64],
+) -> Reduction
+    requires { ⌜ CountsBounded c × (length (now place) ≡ 4096) × (length (now excited) ≡ 256) ⌝ }
+    requires { ⌜ Sizes (c .machines) (now sets) (now pre) (now below) × PlaceSets (now place) (c .states) (length (now sets)) 0 (now sets) × AllStates (now below) ⌝ }
+    ensures { λ r. ⌜ Thins c (now (pre .entry)) (now (place .entry)) (now (excited .entry)) r ⌝ }
+{
+    let cover = check_cover_in(c, place, excited, pre, sets);
+    if let Verdict::Refused(why) = cover {
+        return Reduction::Refused(why);
+    }
+    let machines = c.machines;
+    let events = c.events;
+    meet_below(sets, pre, machines, events, below);
+    let kept = drop_redundant(sets, pre, below, excited, machines, events);
+    Reduction::To(kept)
+}
+
+// 11 and 12 of all machines, and then what Thin keeps, by one row of sets. The rows are small where there are few machines, so that a small text does not clear
+// large ones.
+pub fn remove_redundant(c: Counts, place: &[u8], excited: &[u64], pre: &[u8]) -> Reduction
+    requires { ⌜ CountsBounded c × (length (now place) ≡ 4096) × (length (now excited) ≡ 256) × (length (now pre) ≡ 1024) ⌝ }
+    ensures { λ r. ⌜ Thins c (now (pre .entry)) (now (place .entry)) (now (excited .entry)) r ⌝ }
+{
+    if c.machines <= FEW {
+        let mut sets = [0u64; FEW_WORDS];
+        let mut below = [FULL_WORD; FEW_WORDS];
+        return thin(c, place, excited, pre, &mut sets, &mut below);
+    }
+    let mut sets = [0u64; PLACE_WORDS];
+    let mut below = [FULL_WORD; PLACE_WORDS];
+    thin(c, place, excited, pre, &mut sets, &mut below)
 }

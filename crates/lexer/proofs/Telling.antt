@@ -31,10 +31,10 @@ packed-same (a ∷ w) (b ∷ v) x y p q l e =
     let h : a ≡ b = omega arith in
     (omega arith, cc)
 
-front : (k : ℕ) (w : List ℕ) → EachByte w → EachByte (take k w)
+pub front : (k : ℕ) (w : List ℕ) → EachByte w → EachByte (take k w)
 front k w p b m = p b (subst (List·Memᴰ b) (take-append-drop k w) (Memᴰ·append-left (drop k w) m))
 
-back : (k : ℕ) (w : List ℕ) → EachByte w → EachByte (drop k w)
+pub back : (k : ℕ) (w : List ℕ) → EachByte w → EachByte (drop k w)
 back k w p b m = p b (subst (List·Memᴰ b) (take-append-drop k w) (Memᴰ·append-right (take k w) m))
 
 pub told : (w v : Name) → EachByte w → EachByte v → length w ≡ length v → high w ≡ high v → low w ≡ low v → w ≡ v

@@ -17,8 +17,8 @@ use Rattle.lexer.specs.declared.Word.the-variants.{Missing, Found}
 use Rattle.lexer.specs.Words.{high, low}
 use Rattle.lexer.proofs.Moves.{spaced-name-sound}
 use Rattle.lines.specs.Rows.{placeRow}
-use Rattle.lines.specs.Lines.{asStates, namesFrom, eventsRows, noEvents, asEvents, asStep, duplicateMark, allBelow, hasRow, withoutRow, noMachine, machineRow, asMachine}
-use Rattle.lines.specs.declared.EventsLine.{EventsLine}
+use Rattle.lines.specs.Lines.{asStates, namesFrom, EventRows, withNames, noEvents, asEvents, StoresNames, asStep, duplicateMark, allBelow, hasRow, withoutRow, noMachine, machineRow, asMachine}
+use Rattle.lines.specs.declared.EventsAt.{EventsAt}
 use Rattle.lines.specs.declared.StepWords.{StepWords}
 use Rattle.lines.specs.declared.StepLine.{StepLine}
 use Rattle.lines.specs.declared.StepLine.the-variants as S
@@ -126,24 +126,26 @@ module _ (s : List ℕ) (at : ℕ) {r : StepLine} (p : r ≡ asStep (stepLine s 
       let z : _≡_ {A = ℕ} 0 1 = cc in
       absurd (omega arith)
 
-pub record GotEvents (o : Parsed Line) (at : ℕ) (r : EventsLine) : Type 0 where
+-- the line and what it leaves in the rows
+pub record GotEvents (o : Parsed Line) (at : ℕ) (r : EventsAt) (before after : EventRows) : Type 0 where
   pub names : List Name
   pub read : o ≡ got (events names) (r .next)
-  pub rows : r ≡ eventsRows true (namesFrom at) names (r .next)
+  pub counted : r .count ≡ length names
   pub each : (e : Name) → List·Memᴰ e names → IsName e
+  pub rows : after ≡ withNames (namesFrom at) before names
 
-module _ (s : List ℕ) (at : ℕ) {r : EventsLine} (p : r ≡ asEvents at (eventsLine s at)) where
-  pub events-got : r .formed ≡ true → GotEvents (eventsLine s at) at r
-  unfolding asEvents noEvents eventsRows
-  events-got q =
-      which (events-only s at) (λ e. other (ap (λ (x : EventsLine). x .formed) (p ∙ ap (asEvents at) e)) q) λ es k e h.
-      let f : r ≡ asEvents at (got (events es) k) = p ∙ ap (asEvents at) e in
-      let n : k ≡ r .next = sym (ap (λ (x : EventsLine). x .next) f) in
-      record { names = es; read = e ∙ ap (got (events es)) n; rows = f ∙ ap (eventsRows true (namesFrom at) es) n; each = h }
+module _ (s : List ℕ) (at : ℕ) {r : EventsAt} (p : r ≡ asEvents (eventsLine s at)) where
+  pub events-got : {before after : EventRows} → StoresNames at (eventsLine s at) before after → r .formed ≡ true → GotEvents (eventsLine s at) at r before after
+  unfolding asEvents noEvents
+  events-got w q =
+      which (events-only s at) (λ e. other (ap (λ (x : EventsAt). x .formed) (p ∙ ap asEvents e)) q) λ es k e h.
+      let f : r ≡ asEvents (got (events es) k) = p ∙ ap asEvents e in
+      let n : k ≡ r .next = sym (ap (λ (x : EventsAt). x .next) f) in
+      record { names = es; read = e ∙ ap (got (events es)) n; counted = ap (λ (x : EventsAt). x .count) f; each = h; rows = w .stored es k e }
 
   pub events-missing : r .formed ≡ false → eventsLine s at ≡ fail
-  unfolding asEvents eventsRows
-  events-missing q = which (events-only s at) (λ e. e) λ es k e _. other q (ap (λ (x : EventsLine). x .formed) (p ∙ ap (asEvents at) e))
+  unfolding asEvents
+  events-missing q = which (events-only s at) (λ e. e) λ es k e _. other q (ap (λ (x : EventsAt). x .formed) (p ∙ ap asEvents e))
 
 -- what a machine line with these places says
 pub record GotMachine (n : ℕ) (o : Parsed Line) (r : MachineLine) : Type 0 where

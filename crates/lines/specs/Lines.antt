@@ -1,10 +1,11 @@
 -- What the code answers to what a line's reader finds.
 use Prim.Native.Nat.{ℕ, _+_}
+use mathlib.Core.Path.{_≡_}
 use mathlib.Core.Bool.{Bool, true, false, cond, _&&_}
-use mathlib.Core.List.{List, [], map, flatten}
-use mathlib.Core.Option.{none}
+use mathlib.Core.List.{List, map, flatten}
 use lib.Dec.{leb, ltb, eqb}
 use lib.ListN.{length, replicate}
+use lib.Seq.{sets}
 use Rattle.model.specs.Lists.{every, count, lowest}
 use Rattle.model.specs.Machine.{Place}
 use Rattle.model.specs.Bytes.{Name}
@@ -13,11 +14,11 @@ use Rattle.model.specs.Form.{Line, states, events, step, machine}
 use Rattle.lexer.specs.declared.Word.{Word}
 use Rattle.lexer.specs.declared.Word.the-variants.{Missing, Found}
 use Rattle.lexer.specs.Words.{high, low}
-use Rattle.lines.specs.declared.EventsLine.{EventsLine}
+use Rattle.lines.specs.declared.EventsAt.{EventsAt}
 use Rattle.lines.specs.declared.StepLine.{StepLine}
 use Rattle.lines.specs.declared.StepLine.the-variants as S
 use Rattle.lines.specs.declared.MachineLine.{MachineLine}
-use Rattle.lines.specs.Rows.{row, spots, placeRow, orNoState}
+use Rattle.lines.specs.Rows.{spots, placeRow, orNoState}
 
 unfoldable pub asStates : Parsed Line → Word
 asStates fail = Missing
@@ -30,27 +31,46 @@ asStates (got (machine ps) next) = Missing
 unfoldable pub namesFrom : ℕ → ℕ
 namesFrom at = at + 7
 
-unfoldable pub eventsRows : Bool → ℕ → List Name → ℕ → EventsLine
-eventsRows formed at es next =
+-- the rows of names: of each its position in the text, its length, and its bytes as two numbers
+pub record EventRows : Type 0 where
+  pub placed : List ℕ
+  pub lengths : List ℕ
+  pub highs : List ℕ
+  pub lows : List ℕ
+
+abbrev pub eventRows : List ℕ → List ℕ → List ℕ → List ℕ → EventRows
+eventRows a b c d = record { placed = a; lengths = b; highs = c; lows = d }
+
+-- they have all their entries
+pub record FullRows (r : EventRows) : Type 0 where
+  pub placed-full : length (r .placed) ≡ 64
+  pub lengths-full : length (r .lengths) ≡ 64
+  pub highs-full : length (r .highs) ≡ 64
+  pub lows-full : length (r .lows) ≡ 64
+
+-- names that begin at a position are stored from the front; those past the rows' end fall away
+unfoldable pub withNames : ℕ → EventRows → List Name → EventRows
+withNames at r es =
     record {
-      formed = formed;
-      count = length es;
-      spot = row 64 0 (spots at es);
-      «len» = row 64 0 (map length es);
-      «high» = row 64 0 (map high es);
-      «low» = row 64 0 (map low es);
-      next = next;
+      placed = sets (r .placed) 0 (spots at es);
+      lengths = sets (r .lengths) 0 (map length es);
+      highs = sets (r .highs) 0 (map high es);
+      lows = sets (r .lows) 0 (map low es);
     }
 
-unfoldable pub noEvents : EventsLine
-noEvents = eventsRows false 0 [] 0
+unfoldable pub noEvents : EventsAt
+noEvents = record { formed = false; count = 0; next = 0 }
 
-unfoldable pub asEvents : ℕ → Parsed Line → EventsLine
-asEvents at fail = noEvents
-asEvents at (got (states n) next) = noEvents
-asEvents at (got (events es) next) = eventsRows true (namesFrom at) es next
-asEvents at (got (step a e b) next) = noEvents
-asEvents at (got (machine ps) next) = noEvents
+unfoldable pub asEvents : Parsed Line → EventsAt
+asEvents fail = noEvents
+asEvents (got (states n) next) = noEvents
+asEvents (got (events es) next) = record { formed = true; count = length es; next = next }
+asEvents (got (step a e b) next) = noEvents
+asEvents (got (machine ps) next) = noEvents
+
+-- what an events line at a position leaves in the rows: its names; without its form it is left open
+pub record StoresNames (at : ℕ) (o : Parsed Line) (before after : EventRows) : Type 0 where
+  pub stored : (es : List Name) (next : ℕ) → o ≡ got (events es) next → after ≡ withNames (namesFrom at) before es
 
 unfoldable pub asStep : Parsed Line → StepLine
 asStep fail = S.Missing

@@ -19,13 +19,6 @@ use Rattle.lines.specs.declared.Places.the-variants as M
 unfoldable pub asNames : List Name × ℕ → Names
 asNames r = record { count = length (r .0); next = r .1 }
 
--- the rows of an events line have all their entries
-pub record FullRows (spots lens highs lows : List ℕ) : Type 0 where
-  pub spots-full : length spots ≡ 64
-  pub lens-full : length lens ≡ 64
-  pub highs-full : length highs ≡ 64
-  pub lows-full : length lows ≡ 64
-
 -- a machine's row so far, whether all its states are declared, and the lowest that was listed twice
 pub record Marking : Type 0 where
   pub declared : Bool

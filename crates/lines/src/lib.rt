@@ -3,15 +3,10 @@ ghost use mathlib.Core.Path.{_≡_};
 ghost use Prim.Native.Nat.{_≤_};
 ghost use mathlib.Core.Bool.{_&&_};
 ghost use lib.Dec.{leb};
-ghost use lib.ListN.{length};
-ghost use lib.Seq.{sets};
-ghost use mathlib.Core.List.{map};
 ghost use Rattle.model.specs.Reading.{many};
 ghost use Rattle.model.specs.Form.{statesLine, eventsLine, stepLine, machineLine, place, spacedFigure, spacedName};
-ghost use Rattle.lexer.specs.Words as Words;
-ghost use Rattle.lines.specs.Rows.{spots};
-ghost use Rattle.lines.specs.Lines.{asStates, asEvents, asStep, asMachine, noEvents, withoutRow};
-ghost use Rattle.lines.specs.Marking.{asNames, FullRows, marking, marked, markedAll, upTo64, opened, PlaceRead, PlacesRead};
+ghost use Rattle.lines.specs.Lines.{asStates, eventRows, FullRows, withNames, noEvents, asEvents, StoresNames, asStep, asMachine, withoutRow};
+ghost use Rattle.lines.specs.Marking.{asNames, marking, marked, markedAll, upTo64, opened, PlaceRead, PlacesRead};
 use lexer::NameWord;
 use lexer::Word;
 use lexer::read_figure;
@@ -27,14 +22,10 @@ pub const UNPLACED: u8 = 255;
 // A number that no state has.
 pub const NO_STATE: usize = 256;
 
-// An events line: how many names, and for each of the first 64 its position in the text, its length, and its bytes as two numbers.
-pub struct EventsLine {
+// An events line: how many names, and the position after it.
+pub struct EventsAt {
     pub formed: bool,
     pub count: usize,
-    pub spot: [usize; MAX_EVENTS],
-    pub len: [usize; MAX_EVENTS],
-    pub high: [u64; MAX_EVENTS],
-    pub low: [u64; MAX_EVENTS],
     pub next: usize,
 }
 
@@ -87,7 +78,7 @@ struct Names {
     next: usize,
 }
 
-// The names from a position on, each after a space, into rows.
+// The names from a position on, each after a space, into rows: of each of the first 64 its position in the text, its length, and its bytes as two numbers.
 fn read_names(
     s: &[u8],
     at: usize,
@@ -96,12 +87,9 @@ fn read_names(
     high: &mut [u64; MAX_EVENTS],
     low: &mut [u64; MAX_EVENTS],
 ) -> Names
-    requires { ⌜ FullRows (now spot) (now «len») (now «high») (now «low») ⌝ }
+    requires { ⌜ FullRows (eventRows (now spot) (now «len») (now «high») (now «low»)) ⌝ }
     ensures { λ r. ⌜ r ≡ asNames (many spacedName (now (s .entry)) at) ⌝ }
-    ensures { λ r. ⌜ now (spot .exit) ≡ sets (now (spot .entry)) 0 (spots at (many spacedName (now (s .entry)) at .0)) ⌝ }
-    ensures { λ r. ⌜ now («len» .exit) ≡ sets (now («len» .entry)) 0 (map length (many spacedName (now (s .entry)) at .0)) ⌝ }
-    ensures { λ r. ⌜ now («high» .exit) ≡ sets (now («high» .entry)) 0 (map Words.high (many spacedName (now (s .entry)) at .0)) ⌝ }
-    ensures { λ r. ⌜ now («low» .exit) ≡ sets (now («low» .entry)) 0 (map Words.low (many spacedName (now (s .entry)) at .0)) ⌝ }
+    ensures { λ r. ⌜ eventRows (now (spot .exit)) (now («len» .exit)) (now («high» .exit)) (now («low» .exit)) ≡ withNames at (eventRows (now (spot .entry)) (now («len» .entry)) (now («high» .entry)) (now («low» .entry))) (many spacedName (now (s .entry)) at .0) ⌝ }
 {
     let mut k = 0;
     let mut i = at;
@@ -126,44 +114,41 @@ fn read_names(
     }
 }
 
-fn no_events() -> EventsLine
+fn no_events() -> EventsAt
     ensures { λ r. ⌜ r ≡ noEvents ⌝ }
 {
-    EventsLine {
+    EventsAt {
         formed: false,
         count: 0,
-        spot: [0usize; MAX_EVENTS],
-        len: [0usize; MAX_EVENTS],
-        high: [0u64; MAX_EVENTS],
-        low: [0u64; MAX_EVENTS],
         next: 0,
     }
 }
 
-// The events line at a position. All names count, and the first 64 have their rows.
-pub fn read_events(s: &[u8], at: usize) -> EventsLine
-    ensures { λ r. ⌜ r ≡ asEvents at (eventsLine (now (s .entry)) at) ⌝ }
+// The events line at a position, its names into rows. All names count. If it is not formed, what the rows hold is left open.
+pub fn read_events(
+    s: &[u8],
+    at: usize,
+    spot: &mut [usize; MAX_EVENTS],
+    len: &mut [usize; MAX_EVENTS],
+    high: &mut [u64; MAX_EVENTS],
+    low: &mut [u64; MAX_EVENTS],
+) -> EventsAt
+    requires { ⌜ FullRows (eventRows (now spot) (now «len») (now «high») (now «low»)) ⌝ }
+    ensures { λ r. ⌜ r ≡ asEvents (eventsLine (now (s .entry)) at) ⌝ }
+    ensures { λ r. ⌜ StoresNames at (eventsLine (now (s .entry)) at) (eventRows (now (spot .entry)) (now («len» .entry)) (now («high» .entry)) (now («low» .entry))) (eventRows (now (spot .exit)) (now («len» .exit)) (now («high» .exit)) (now («low» .exit))) ⌝ }
 {
     let Word::Found { value: _, next: a } = read_literal(s, at, b"(events") else {
         return no_events();
     };
-    let mut spot = [0usize; MAX_EVENTS];
-    let mut len = [0usize; MAX_EVENTS];
-    let mut high = [0u64; MAX_EVENTS];
-    let mut low = [0u64; MAX_EVENTS];
-    let names = read_names(s, a, &mut spot, &mut len, &mut high, &mut low);
+    let names = read_names(s, a, spot, len, high, low);
     let count = names.count;
     let last = names.next;
     let Word::Found { value: _, next } = read_literal(s, last, b")\n") else {
         return no_events();
     };
-    EventsLine {
+    EventsAt {
         formed: true,
         count,
-        spot,
-        len,
-        high,
-        low,
         next,
     }
 }

@@ -1,109 +1,192 @@
--- An event on the machines together, by the rows of their moves: the machines passed do not block it, and have moved.
+-- An event on the machines together, by the rows of their moves: the search for a machine that blocks it, and the machines side by side.
 use Prim.Native.Nat.{ℕ, _+_, _*_, _-_, _<_, _≤_}
+use native.Mathlib.Decide.{ℕ-discrete}
 use native.Mathlib.Omega.{arith}
 use mathlib.Core.Path.{_≡_, refl, ap, sym, _∙_}
-use mathlib.Core.Logic.{_⊎_, inl, inr}
+use mathlib.Core.Logic.{_⊎_, inl, inr, ⊎-elim}
 use mathlib.Core.List.{List}
-use mathlib.Core.Option.{none, some}
-use mathlib.Core.Bool.{not}
-use borrow.Author.Tests.{lt-ltb, le-ltb, eq-eqb, ne-eqb}
+use mathlib.Core.Option.{Option, none, some}
+use mathlib.Core.Bool.{Bool, true, false, not, cond, _&&_, _||_}
+use borrow.Author.Tests.{le-ltb}
+use lib.Dec.{T, eqb, ltb}
 use lib.ListN.{length, set, length-set}
 use lib.Seq.{getD-set-same, getD-set-other}
-use Rattle.model.specs.Lists.{isSome}
+use Rattle.model.specs.Lists.{isSome, lowest}
 use Rattle.model.specs.Machine.{moveFrom}
-use Rattle.model.proofs.Laws.{order}
-use Rattle.reader.specs.Told.{entry}
-use Rattle.reader.proofs.Searches.{searched}
+use Rattle.model.proofs.Laws.{T-true, and-l, and-r, and-not, contra, order, lowest-none}
+use Rattle.reader.specs.Told.{entry, below}
+use Rattle.reader.proofs.Searches.{below-out, lowest-same, searched}
 use Rattle.regions.specs.Moves.{moveAt}
-use Rattle.product.specs.Stepping.{firesAt, Steps}
+use Rattle.product.specs.Stepping.{PlaceBounds, firesAt, blocksAt, Steps}
 
--- `left` machines are still to come: those before them do not block, and stand in `moved` where they go; the others as they stood
-pub record Moving (pre post : List ℕ) (machines : ℕ) (places : List ℕ) (e : ℕ) (moved : List ℕ) (left : ℕ) : Type 0 where
-  pub most : left ≤ machines
-  pub size : length moved ≡ 16
-  pub went : (k : ℕ) → k < machines - left → firesAt pre post places e k ≡ some (entry moved k)
-  pub others : (k : ℕ) → machines - left ≤ k → entry moved k ≡ entry places k
+-- what a row of moves has for event e on machine k
+abbrev entryOf : List ℕ → ℕ → ℕ → ℕ
+entryOf row e k = entry row (e * 16 + k)
 
--- one machine: the event is not on it, it stands elsewhere than in the pre-place, or it goes
+-- one machine is ready if the event is not on it or it stands in the pre-place; else it blocks
+module _ (pre places : List ℕ) (e k : ℕ) where
+  abbrev ready : Bool
+  ready = not (ltb (entryOf pre e k) 64) || eqb (entry places k) (entryOf pre e k)
+
+  blocks-ready : blocksAt pre places e k ≡ not ready
+  unfolding blocksAt
+  blocks-ready = go (ltb (entryOf pre e k) 64) (eqb (entry places k) (entryOf pre e k))
+    where
+      go : (on stands : Bool) → (on && not stands) ≡ not (not on || stands)
+      go false stands = refl
+      go true stands = refl
+
+-- where it goes
 module _ (pre post places : List ℕ) (e k : ℕ) where
-  abbrev at : ℕ
-  at = k * 64 + e
+  abbrev goes : Bool → Option ℕ
+  goes on = moveFrom (entry places k) (cond on (some (record { pre = entryOf pre e k; post = entryOf post e k })) none)
 
-  fires-off : 64 ≤ entry pre at → firesAt pre post places e k ≡ some (entry places k)
+  ready-fires : T (ready pre places e k) → firesAt pre post places e k ≡ some (cond (ltb (entryOf pre e k) 64) (entryOf post e k) (entry places k))
   unfolding firesAt moveAt moveFrom
-  fires-off h = rw (le-ltb (entry pre at) 64 h)
+  ready-fires = go (ltb (entryOf pre e k) 64)
+    where
+      go : (on : Bool) → T (not on || eqb (entry places k) (entryOf pre e k)) → goes on ≡ some (cond on (entryOf post e k) (entry places k))
+      go false t = refl
+      go true t = rw (T-true (eqb (entry places k) (entryOf pre e k)) t)
 
-  fires-not : entry pre at < 64 → ¬ (entry places k ≡ entry pre at) → firesAt pre post places e k ≡ none
-  unfolding firesAt moveAt moveFrom
-  fires-not h n = rw (lt-ltb (entry pre at) 64 h, ne-eqb (entry places k) (entry pre at) n)
+  blocks-fires : blocksAt pre places e k ≡ not (isSome (firesAt pre post places e k))
+  unfolding blocksAt firesAt moveAt moveFrom isSome
+  blocks-fires = go (ltb (entryOf pre e k) 64)
+    where
+      here : (stands : Bool) → not stands ≡ not (isSome (cond stands (some (entryOf post e k)) none))
+      here false = refl
+      here true = refl
 
-  fires-on : entry pre at < 64 → entry places k ≡ entry pre at → firesAt pre post places e k ≡ some (entry post at)
-  unfolding firesAt moveAt moveFrom
-  fires-on h q = rw (lt-ltb (entry pre at) 64 h, eq-eqb (entry places k) (entry pre at) q)
+      go : (on : Bool) → (on && not (eqb (entry places k) (entryOf pre e k))) ≡ not (isSome (goes on))
+      go false = refl
+      go true = here (eqb (entry places k) (entryOf pre e k))
+
+-- the search: `left` machines are still to come, and those before them do not block
+pub record Passing (pre : List ℕ) (machines : ℕ) (places : List ℕ) (e left : ℕ) : Type 0 where
+  pub most : left ≤ machines
+  pub passed : (k : ℕ) → k < machines - left → T (not (blocksAt pre places e k))
+
+module _ {pre : List ℕ} {machines : ℕ} {places : List ℕ} {e : ℕ} where
+  pub pass-start : Passing pre machines places e machines
+  pass-start = record { most = omega arith; passed = λ k l. absurd (omega arith) }
+
+  module _ {left : ℕ} (p : Passing pre machines places e left) (l : 0 < left) {stands : Bool}
+      (v : stands ≡ ready pre places e (machines - left)) where
+    blocks-turn : blocksAt pre places e (machines - left) ≡ not stands
+    blocks-turn = rw v (blocks-ready pre places e (machines - left))
+
+    pub pass-more : not stands ≡ false → Passing pre machines places e (left - 1)
+    pass-more t = record { most = omega (arith, p .most); passed = λ k i. at k (order k (machines - left)) (omega (arith, p .most)) }
+      where
+        at : (k : ℕ) → (k < machines - left) ⊎ (machines - left ≤ k) → k ≤ machines - left → T (not (blocksAt pre places e k))
+        at k (inl b) c = p .passed k b
+        at k (inr b) c = let q : k ≡ machines - left = omega arith in rw (q, blocks-turn, t) tt
+
+    pub pass-found : not stands ≡ true → below machines (machines - left) ≡ lowest (blocksAt pre places e) machines
+    pass-found t = searched (blocksAt pre places e) machines (machines - left) (omega arith) (p .passed) (λ i. rw (blocks-turn, t) tt)
+
+  pub pass-end : {left : ℕ} → Passing pre machines places e left → left ≤ 0 → below machines machines ≡ lowest (blocksAt pre places e) machines
+  pass-end p l = searched (blocksAt pre places e) machines machines (omega arith) (λ k i. p .passed k (omega arith)) (λ i. absurd (omega arith))
+
+-- a machine that blocks
+pub record Blocking (pre : List ℕ) (machines : ℕ) (places : List ℕ) (e : ℕ) : Type 0 where
+  pub machine : ℕ
+  pub among : machine < machines
+  pub blocks : T (blocksAt pre places e machine)
+
+-- the machine numbers before m are passed: all are ready and stand in `moved` where they go, or one blocks; the others are as they stood
+pub record Lanes (pre post : List ℕ) (machines : ℕ) (places : List ℕ) (e : ℕ) (moved : List ℕ) (all : Bool) (m : ℕ) : Type 0 where
+  pub most : m ≤ 16
+  pub size : length moved ≡ 16
+  pub went : T all → (k : ℕ) → k < m → k < machines → firesAt pre post places e k ≡ some (entry moved k)
+  pub halted : T (not all) → Blocking pre machines places e
+  pub later : (k : ℕ) → m ≤ k → entry moved k ≡ entry places k
+  pub unused : (k : ℕ) → machines ≤ k → entry moved k ≡ entry places k
 
 module _ {pre post : List ℕ} {machines : ℕ} {places : List ℕ} {e : ℕ} where
-  pub move-start : length places ≡ 16 → Moving pre post machines places e places machines
-  move-start h = record { most = omega arith; size = h; went = λ k l. absurd (omega arith); others = λ k l. refl }
+  pub lane-start : length places ≡ 16 → Lanes pre post machines places e places true 0
+  lane-start h = record { most = omega arith; size = h; went = λ t k l. absurd (omega arith); halted = λ t. absurd t; later = λ k l. refl; unused = λ k l. refl }
 
-  module _ {moved : List ℕ} {left : ℕ} (m : Moving pre post machines places e moved left) (l : 0 < left) where
-    -- the machine whose turn it is
-    abbrev turn : ℕ
-    turn = machines - left
-
-    moved-on : (next : List ℕ) → length next ≡ 16 → ((k : ℕ) → ¬ (k ≡ turn) → entry next k ≡ entry moved k)
-        → firesAt pre post places e turn ≡ some (entry next turn) → Moving pre post machines places e next (left - 1)
-    moved-on next s same here =
+  module _ {moved : List ℕ} {all : Bool} {m : ℕ} (z : Lanes pre post machines places e moved all m) (l : m < 16) where
+    -- one number more: `stands` says whether its machine is ready, and q where it goes
+    lane-on : (stands : Bool) (q : ℕ) → (T stands → m < machines → firesAt pre post places e m ≡ some q)
+        → (T (not stands) → Blocking pre machines places e) → (machines ≤ m → q ≡ entry places m)
+        → Lanes pre post machines places e (set moved m q) (all && stands) (m + 1)
+    lane-on stands q goes-on stops stays =
         record {
-          most = omega (arith, m .most);
-          size = s;
-          went = λ k i. at k (order k turn) (omega (arith, m .most));
-          others = λ k i. same k (λ q. omega (arith, m .most)) ∙ m .others k (omega (arith, m .most));
+          most = omega arith;
+          size = length-set moved m q ∙ z .size;
+          went = λ t k i j. at t k (ℕ-discrete k m) (omega arith) j;
+          halted = λ t. ⊎-elim (z .halted) stops (and-not all stands t);
+          later = λ k i. same k (λ s. omega arith) ∙ z .later k (omega arith);
+          unused = λ k i. off k i (ℕ-discrete k m);
         }
       where
-        at : (k : ℕ) → (k < turn) ⊎ (turn ≤ k) → k ≤ turn → firesAt pre post places e k ≡ some (entry next k)
-        at k (inl b) c = m .went k b ∙ ap some (sym (same k (λ q. omega arith)))
-        at k (inr b) c = let q : k ≡ turn = omega arith in rw q here
+        here : entry (set moved m q) m ≡ q
+        here = getD-set-same moved m q 0 (omega (arith, z .size))
 
-    -- the event is not on it
-    pub move-skip : {next : List ℕ} → 64 ≤ entry pre (turn * 64 + e) → next ≡ moved → Moving pre post machines places e next (left - 1)
-    move-skip {next} h u =
-        rw u (moved-on moved (m .size) (λ k n. refl) (fires-off pre post places e turn h ∙ ap some (sym (m .others turn (omega arith)))))
+        same : (k : ℕ) → ¬ (k ≡ m) → entry (set moved m q) k ≡ entry moved k
+        same k n = getD-set-other moved m k q 0 n
 
-    -- it goes
-    pub move-more : {next : List ℕ} → machines ≤ 16 → entry pre (turn * 64 + e) < 64 → entry places turn ≡ entry pre (turn * 64 + e)
-        → next ≡ set moved turn (entry post (turn * 64 + e)) → Moving pre post machines places e next (left - 1)
-    move-more {next} n h p u =
-        let v = entry post (turn * 64 + e) in
-        rw u
-        (moved-on (set moved turn v) (length-set moved turn v ∙ m .size) (λ k d. getD-set-other moved turn k v 0 d)
-        (fires-on pre post places e turn h p ∙ ap some (sym (getD-set-same moved turn v 0 (omega (arith, m .size, m .most))))))
+        at : T (all && stands) → (k : ℕ) → Dec (k ≡ m) → k ≤ m → k < machines → firesAt pre post places e k ≡ some (entry (set moved m q) k)
+        at t k (yes s) c j = rw (s, here) (goes-on (and-r all stands t) (omega arith))
+        at t k (no n) c j = z .went (and-l all stands t) k (omega arith) j ∙ ap some (sym (same k n))
 
-    -- it blocks
-    pub move-blocked : length places ≡ 16 → entry pre (turn * 64 + e) < 64 → ¬ (entry places turn ≡ entry pre (turn * 64 + e))
-        → Steps pre post machines places e (record { blocker = turn; places = places })
+        off : (k : ℕ) → machines ≤ k → Dec (k ≡ m) → entry (set moved m q) k ≡ entry places k
+        off k i (yes s) = rw (s, here) (stays (omega arith))
+        off k i (no n) = same k n ∙ z .unused k i
+
+    -- the event is on it where its pre-place is below its bound
+    module _ {bounds : List ℕ} (bound : PlaceBounds machines bounds) where
+      abbrev on : Bool
+      on = ltb (entryOf pre e m) (entry bounds m)
+
+      pub lane-more : {stands : Bool} → stands ≡ (not on || eqb (entry places m) (entryOf pre e m))
+          → {q : ℕ} → q ≡ cond on (entryOf post e m) (entry places m)
+          → Lanes pre post machines places e (set moved m q) (all && stands) (m + 1)
+      lane-more {stands} v {q} w = go (order m machines)
+        where
+          go : (m < machines) ⊎ (machines ≤ m) → Lanes pre post machines places e (set moved m q) (all && stands) (m + 1)
+          go (inl b) =
+              let o : on ≡ ltb (entryOf pre e m) 64 = rw (bound .stands m b) in
+              let s : stands ≡ ready pre places e m = v ∙ rw o in
+              lane-on stands q (λ t c. ready-fires pre post places e m (rw s at t) ∙ ap some (sym (w ∙ rw o)))
+              (λ t. record { machine = m; among = b; blocks = rw (blocks-ready pre places e m, sym s) t }) (λ c. absurd (omega arith))
+          go (inr b) =
+              let o : on ≡ false = le-ltb (entryOf pre e m) (entry bounds m) (omega (arith, bound .unused m b)) in
+              let s : stands ≡ true = v ∙ rw o in
+              lane-on stands q (λ t c. absurd (omega arith)) (λ t. absurd (rw s at t)) (λ c. w ∙ rw o)
+
+  module _ {moved : List ℕ} {all : Bool} {m : ℕ} (z : Lanes pre post machines places e moved all m) (few : machines ≤ 16) (l : 16 ≤ m) where
+    -- none blocks
+    pub lane-end : all ≡ true → Steps pre post machines places e (record { blocker = machines; places = moved })
     unfolding isSome
-    move-blocked s h n =
+    lane-end t =
         record {
           blocker =
-              searched (λ k. not (isSome (firesAt pre post places e k))) machines turn (omega (arith, m .most)) (λ k i. rw (m .went k i) tt)
-              (λ i. rw (fires-not pre post places e turn h n) tt);
+              searched (λ k. not (isSome (firesAt pre post places e k))) machines machines (omega arith) (λ k i. rw (went k i) tt) (λ i. absurd (omega arith));
+          stay = λ i. absurd (omega arith);
+          size = z .size;
+          move = λ i. went;
+          others = z .unused;
+        }
+      where
+        went : (k : ℕ) → k < machines → firesAt pre post places e k ≡ some (entry moved k)
+        went k i = z .went (rw t tt) k (omega arith) i
+
+    -- one blocks, and the search finds the lowest
+    pub lane-blocked : length places ≡ 16 → all ≡ false → {r : ℕ} → below machines r ≡ lowest (blocksAt pre places e) machines
+        → Steps pre post machines places e (record { blocker = r; places = places })
+    lane-blocked s t {r} f =
+        record {
+          blocker = f ∙ lowest-same (blocksAt pre places e) (λ k. not (isSome (firesAt pre post places e k))) machines (λ k i. blocks-fires pre post places e k);
           stay = λ i. refl;
           size = s;
-          move = λ i. absurd (omega (arith, m .most));
+          move = λ i. absurd (ends i (z .halted (rw t tt)));
           others = λ k i. refl;
         }
-
-  -- none blocks
-  pub move-end : {moved : List ℕ} {left : ℕ} → Moving pre post machines places e moved left → left ≤ 0
-      → Steps pre post machines places e (record { blocker = machines; places = moved })
-  unfolding isSome
-  move-end {moved} {left} m l =
-      record {
-        blocker =
-            searched (λ k. not (isSome (firesAt pre post places e k))) machines machines (omega arith) (λ k i. rw (m .went k (omega arith)) tt)
-            (λ i. absurd (omega arith));
-        stay = λ i. absurd (omega arith);
-        size = m .size;
-        move = λ i k b. m .went k (omega arith);
-        others = λ k i. m .others k (omega arith);
-      }
+      where
+        ends : machines ≤ r → Blocking pre machines places e → ⊥
+        ends i b =
+            let none-found = lowest-none (blocksAt pre places e) machines (sym f ∙ below-out machines r i) (b .machine) (b .among) in
+            contra (blocksAt pre places e (b .machine)) none-found (b .blocks)

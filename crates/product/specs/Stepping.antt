@@ -1,9 +1,10 @@
 -- How the machines stand, step and run, by the rows of their moves.
-use Prim.Native.Nat.{ℕ, _≤_, _<_}
+use Prim.Native.Nat.{ℕ, _+_, _*_, _≤_, _<_}
 use mathlib.Core.Path.{_≡_}
-use mathlib.Core.Bool.{true, not}
+use mathlib.Core.Bool.{Bool, true, not, _&&_}
 use mathlib.Core.List.{List}
 use mathlib.Core.Option.{Option, some}
+use lib.Dec.{eqb, ltb}
 use lib.ListN.{length}
 use Rattle.model.specs.Lists.{isSome, lowest}
 use Rattle.model.specs.Refusal.{passed}
@@ -20,9 +21,17 @@ pub record Standing (place : ℕ → ℕ) (machines : ℕ) (row : List ℕ) : Ty
   pub stands : (k : ℕ) → k < machines → entry row k ≡ place k
   pub unused : (k : ℕ) → machines ≤ k → entry row k ≡ 0
 
+-- each of the first machines has the bound of places, and there is 0 for machine numbers not in use
+abbrev pub PlaceBounds : ℕ → List ℕ → Type 0
+PlaceBounds = Standing (λ _. 64)
+
 -- where machine k stands once e has run; none if it blocks
 unfoldable pub firesAt : List ℕ → List ℕ → List ℕ → ℕ → ℕ → Option ℕ
 firesAt pre post places e k = moveFrom (entry places k) (moveAt pre post k e)
+
+-- machine k has event e, and stands elsewhere than in its pre-place
+unfoldable pub blocksAt : List ℕ → List ℕ → ℕ → ℕ → Bool
+blocksAt pre places e k = ltb (entry pre (e * 16 + k)) 64 && not (eqb (entry places k) (entry pre (e * 16 + k)))
 
 -- the lowest machine that blocks e, and the places as they were; or all have moved
 pub record Steps (pre post : List ℕ) (machines : ℕ) (places : List ℕ) (e : ℕ) (r : Stepped) : Type 0 where

@@ -1,18 +1,17 @@
 // Run: the machines together, from given places over a list of events.
 ghost use mathlib.Core.Path.{_≡_};
-ghost use mathlib.Core.Bool.{not};
+ghost use mathlib.Core.Bool.{not, cond, _||_};
 ghost use Prim.Native.Nat.{_*_, _+_, _<_, _≤_};
-ghost use lib.Dec.{ltb};
+ghost use lib.Dec.{eqb, ltb};
 ghost use lib.ListN.{length};
-ghost use Rattle.model.specs.Lists.{index};
+ghost use Rattle.model.specs.Lists.{index, lowest};
 ghost use Rattle.model.specs.Refusal as Checked;
 ghost use Rattle.model.specs.Cases.{tabled};
 ghost use Rattle.model.specs.Services.{ranAnswer};
-ghost use Rattle.reader.specs.Told.{entry};
+ghost use Rattle.reader.specs.Told.{entry, below};
 ghost use Rattle.regions.specs.Moves.{MoveRows};
 ghost use Rattle.product.specs.Answers.{runAnswer};
-ghost use Rattle.product.specs.Stepping.{Standing, Steps, EventsBelow, RunsFrom, RunsEvents};
-use model::MAX_EVENTS;
+ghost use Rattle.product.specs.Stepping.{Standing, PlaceBounds, blocksAt, Steps, EventsBelow, RunsFrom, RunsEvents};
 use model::MAX_MACHINES;
 use model::MAX_PLACES;
 use model::MAX_STATES;
@@ -63,35 +62,86 @@ pub struct Stepped {
     pub places: [u8; MAX_MACHINES],
 }
 
-// Event e from these places: one pass over the machines' moves.
+// A pre-place below this says that the event is on the machine.
+const PLACE_BOUND: u8 = MAX_PLACES as u8;
+
+// A machine that has the event stands in its pre-place.
+fn is_ready(on: bool, from: u8, place: u8) -> bool
+    ensures { λ r. ⌜ r ≡ (not on || eqb place from) ⌝ }
+{
+    !on | (place == from)
+}
+
+// Where a machine stands after the event: in its post-place if it has the event.
+fn place_after(on: bool, to: u8, place: u8) -> u8
+    ensures { λ r. ⌜ r ≡ cond on to place ⌝ }
+{
+    if on { to } else { place }
+}
+
+// The lowest machine that has event e and stands elsewhere than in its pre-place; their count if there is none.
+fn blocking_machine(pre: &[u8], machines: usize, places: [u8; MAX_MACHINES], e: usize) -> usize
+    requires { ⌜ (machines ≤ 16) × (e < 64) × (length (now pre) ≡ 1024) ⌝ }
+    ensures { λ r. ⌜ below machines r ≡ lowest (blocksAt (now (pre .entry)) places e) machines ⌝ }
+{
+    let at = e * MAX_MACHINES;
+    let mut left = machines;
+    while 0 < left {
+        let m = machines - left;
+        let from = pre[at + m];
+        if !is_ready(from < PLACE_BOUND, from, places[m]) {
+            return m;
+        }
+        left -= 1;
+    }
+    machines
+}
+
+// The bound of each machine's pre-places; 0 for machine numbers not in use, which have no event.
+pub fn place_bounds(machines: usize) -> [u8; MAX_MACHINES]
+    requires { ⌜ machines ≤ 16 ⌝ }
+    ensures { λ r. ⌜ PlaceBounds machines r ⌝ }
+{
+    let mut bounds = [0u8; MAX_MACHINES];
+    let mut m = 0;
+    while m < machines {
+        bounds[m] = PLACE_BOUND;
+        m += 1;
+    }
+    bounds
+}
+
+// Event e from these places. All sixteen machine numbers are taken alike, so that they are one vector; which machine blocks is asked only where one does.
 pub fn step<'a>(
     pre: &'a [u8],
     post: &'a [u8],
     machines: usize,
+    bounds: [u8; MAX_MACHINES],
     places: [u8; MAX_MACHINES],
     e: usize,
 ) -> Stepped
-    requires { ⌜ (machines ≤ 16) × (e < 64) × MoveRows (now pre) (now post) ⌝ }
+    requires { ⌜ (machines ≤ 16) × PlaceBounds machines bounds × (e < 64) × MoveRows (now pre) (now post) ⌝ }
     ensures { λ r. ⌜ Steps (now (pre .entry)) (now (post .entry)) machines places e r ⌝ }
 {
+    let at = e * MAX_MACHINES;
     let mut moved = places;
-    let mut left = machines;
-    while 0 < left {
-        let m = machines - left;
-        let at = m * MAX_EVENTS + e;
-        let from = pre[at];
-        if wide(from) < MAX_PLACES {
-            if places[m] != from {
-                return Stepped { blocker: m, places };
-            }
-            moved[m] = post[at];
-        }
-        left -= 1;
+    let mut ready = true;
+    let mut m = 0;
+    while m < MAX_MACHINES {
+        let from = pre[at + m];
+        let on = from < bounds[m];
+        ready = ready & is_ready(on, from, places[m]);
+        moved[m] = place_after(on, post[at + m], places[m]);
+        m += 1;
     }
-    Stepped {
-        blocker: machines,
-        places: moved,
+    if ready {
+        return Stepped {
+            blocker: machines,
+            places: moved,
+        };
     }
+    let blocker = blocking_machine(pre, machines, places, e);
+    Stepped { blocker, places }
 }
 
 // 14: the lowest position of an event that is not declared; the length of the list if there is none.
@@ -119,10 +169,11 @@ fn run_from<'a>(
     requires { ⌜ (machines ≤ 16) × MoveRows (now pre) (now post) × EventsBelow 64 (now events) ⌝ }
     ensures { λ r. ⌜ RunsFrom (now (pre .entry)) (now (post .entry)) machines start (now (events .entry)) (runAnswer r) ⌝ }
 {
+    let bounds = place_bounds(machines);
     let mut places = start;
     let mut ran = 0;
     while ran < events.len() {
-        let next = step(pre, post, machines, places, wide(events[ran]));
+        let next = step(pre, post, machines, bounds, places, wide(events[ran]));
         places = next.places;
         let blocker = next.blocker;
         if blocker < machines {

@@ -2,10 +2,9 @@
 use Prim.Native.Nat.{ℕ, zero, suc, _+_}
 use native.Mathlib.Omega.{arith}
 use mathlib.Core.Path.{_≡_, refl, ap, sym, _∙_}
-use mathlib.Core.Bool.{true}
 use mathlib.Core.List.{List, [], _∷_, _++_, map, flatMap}
 use mathlib.Core.Option.{some}
-use lib.ListN.{length, take, replicate, length-append, length-map}
+use lib.ListN.{length, take, length-append, length-map}
 use Rattle.model.specs.Refusal.{Refusal, Checked, refused, passed}
 use Rattle.model.specs.TransitionSystem.{Transition}
 use Rattle.model.specs.Machine.{Machine, duplicateState}
@@ -14,14 +13,17 @@ use Rattle.model.specs.Form.{states, written}
 use Rattle.model.specs.Text.{Input, valueOf, nameAt, system}
 use Rattle.model.proofs.ListLaws.{map-map}
 use Rattle.model.proofs.Values.{Named, lines, numbered, input, value-of-lines}
-use Rattle.lines.specs.declared.EventsLine.{EventsLine}
 use Rattle.lines.specs.Rows.{row, tabulate, spots, placeRow, orNoState}
-use Rattle.lines.specs.Lines.{namesFrom, eventsRows, duplicateMark}
+use Rattle.lines.specs.Lines.{namesFrom, duplicateMark}
+use Rattle.quick_step.specs.Quick.{NameRows}
+use Rattle.reader.specs.declared.Verdict.{Verdict}
 use Rattle.reader.specs.declared.Verdict.the-variants.{Passed}
+use Rattle.reader.specs.declared.Counts.{Counts}
 use Rattle.reader.specs.declared.Tables.{Tables}
 use Rattle.reader.specs.declared.Reading.{Reading}
-use Rattle.reader.specs.Tables.{verdictRefusal, noTables, tablesOf, Answers}
-use Rattle.reader.specs.Sections.{Events, TransitionRows, withSteps, noSteps, MachineRows, withMachines}
+use Rattle.reader.specs.Tables.{verdictRefusal, noTables, tablesOf, noCounts, Answers}
+use Rattle.reader.specs.Lent.{AnswersRows}
+use Rattle.reader.specs.Sections.{TransitionRows, withSteps, noSteps, MachineRows, withMachines, noMachines, joined, counts}
 
 -- ---- the places of the names
 
@@ -58,29 +60,6 @@ spots-tabled at (e ∷ es) =
 
 -- ---- the tables
 
--- the rows before a machine line is read
-abbrev pub noMachines : MachineRows
-noMachines = record { sizes = replicate 16 0; duplicate = replicate 16 256; places = replicate 4096 255 }
-
--- the tables that the code builds
-abbrev pub built : ℕ → EventsLine → ℕ → TransitionRows → ℕ → MachineRows → Tables
-built n names k steps j machines =
-    record {
-      states = n;
-      initial = 0;
-      events = names .count;
-      «name_at» = names .spot;
-      «name_len» = names .«len»;
-      transitions = k;
-      source = steps .source;
-      event = steps .event;
-      target = steps .target;
-      machines = j;
-      sizes = machines .sizes;
-      duplicate = machines .duplicate;
-      place = machines .places;
-    }
-
 module _ (n : ℕ) (es : List Name) (ts : List Named) (ms : List Machine) where
   abbrev value : Input
   value = input n es (map (numbered es) ts) ms
@@ -100,10 +79,10 @@ module _ (n : ℕ) (es : List Name) (ts : List Named) (ms : List Machine) where
   duplicate-marked = refl
 
   -- the rows of the lines are the tables
-  pub tabled-value : (next : ℕ) → tablesOf (passed (valueOf (lines n es ts ms)))
-      ≡ built n (eventsRows true (namesFrom (length (written (states n)))) es next) (length ts) (withSteps es noSteps ts) (length ms) (withMachines n noMachines ms)
-  unfolding tablesOf eventsRows withSteps withMachines row
-  tabled-value next =
+  tabled-value : tablesOf (passed (valueOf (lines n es ts ms)))
+      ≡ joined (counts n (length es) (length ts) (length ms)) (row 64 0 (spots (namesFrom (length (written (states n)))) es)) (row 64 0 (map length es)) (withSteps es noSteps ts) (withMachines n noMachines ms)
+  unfolding tablesOf withSteps withMachines row
+  tabled-value =
       ap (λ (v : Input). tablesOf (passed v)) (value-of-lines n es ts ms)
       ∙ λ i. record {
         states = n;
@@ -123,15 +102,28 @@ module _ (n : ℕ) (es : List Name) (ts : List Named) (ms : List Machine) where
 
 -- ---- the answers
 
+-- lines that are refused do not pass
+apart : {C : Type 0} {c : Checked Input} {q : Refusal} {v : Input} → c ≡ refused q → c ≡ passed v → C
+apart p e = let z : _≡_ {A = ℕ} 0 1 = cc in absurd (omega arith)
+
 -- the code's answer to a refusal
+pub rows-refused : {q : Refusal} {c : Checked Input} {v : Verdict} {k : Counts} {p : Tables} → c ≡ refused q → verdictRefusal v ≡ some q → k ≡ noCounts → AnswersRows c v k p
+rows-refused e v k = record { verdict = rw e v; rows = λ x w. apart e w; none = λ _ _. k }
+
+-- its answer where all lines are read into rows in which nothing was stored
+module _ {c : Checked Input} {n : ℕ} {es : List Name} {count k j : ℕ} {ats lens highs lows : List ℕ} {before steps : TransitionRows} {unread machines : MachineRows} where
+  pub rows-passed : (ts : List Named) (ms : List Machine) → NameRows es count lens highs lows → ats ≡ row 64 0 (spots (namesFrom (length (written (states n)))) es)
+      → before ≡ noSteps → unread ≡ noMachines → c ≡ passed (valueOf (lines n es ts ms)) → k ≡ length ts → steps ≡ withSteps es before ts → j ≡ length ms
+      → machines ≡ withMachines n unread ms → AnswersRows c Passed (counts n count k j) (joined (counts n count k j) ats lens steps machines)
+  unfolding verdictRefusal
+  rows-passed ts ms r a f g w p q o u =
+      record {
+        verdict = rw w;
+        rows = λ x e. rw (a, r .counted, r .lengths, p, q, f, o, u, g) (sym (tabled-value n es ts ms) ∙ ap tablesOf (sym w ∙ e));
+        none = λ q e. apart e w;
+      }
+
+-- the answer with the tables in it
 pub answers-refused : {q : Refusal} {c : Checked Input} {r : Reading} → c ≡ refused q → verdictRefusal (r .verdict) ≡ some q → r .tables ≡ noTables → Answers c r
 unfolding tablesOf
 answers-refused e v p = record { verdict = rw e v; rows = rw e p }
-
--- its answer where all lines are read
-module _ {c : Checked Input} {n : ℕ} {es : List Name} {names : EventsLine} {k j : ℕ} {steps : TransitionRows} {machines : MachineRows} where
-  pub answers-passed : (ts : List Named) (ms : List Machine) → Events n es names → c ≡ passed (valueOf (lines n es ts ms))
-      → k ≡ length ts → steps ≡ withSteps es noSteps ts → j ≡ length ms → machines ≡ withMachines n noMachines ms
-      → Answers c (record { verdict = Passed; tables = built n names k steps j machines })
-  unfolding verdictRefusal
-  answers-passed ts ms e w p q o u = record { verdict = rw w; rows = rw (w, e .rows, p, q, o, u) (sym (tabled-value n es ts ms (names .next))) }

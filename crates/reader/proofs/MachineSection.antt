@@ -25,8 +25,9 @@ use Rattle.lines.specs.Rows.{placeRow}
 use Rattle.lines.specs.Lines.{duplicateMark, allBelow}
 use Rattle.lines.proofs.Rows.{sets-append, length-placeRow}
 use Rattle.lines.proofs.Found.{GotMachine}
+use Rattle.reader.specs.declared.Section.{Section}
 use Rattle.reader.specs.declared.Section.the-variants.{Refused, Read}
-use Rattle.reader.specs.Sections.{Rest, begun, MachineRows, machineRows, withMachines, MachinesRead, ReadsMachines}
+use Rattle.reader.specs.Sections.{Rest, begun, MachineRows, machineRows, withMachines, MachinesFound, MachinesRead, ReadsMachines}
 use Rattle.reader.proofs.Rest.{and-not}
 use Rattle.reader.proofs.Stores.{store}
 use Rattle.reader.proofs.Phases.{machines-none, machines-end, machine-fail, machine-many, machine-places, machine-undeclared, machine-more}
@@ -156,3 +157,14 @@ module _ {s : List ℕ} {at n line : ℕ} {before : MachineRows} {k i : ℕ} {no
                         ((q ∙ store-row (now .places) (before .places) ms x k (m .row) (ap (λ (y : MachineRows). y .places) (t .rows)) (t .counted) (g .row-is small declared)) o);
                   };
             }
+
+-- what is promised of a section that was read, and of one that was refused
+pub machines-found : {n : ℕ} {es : List Name} {ts : List Named} {c : Checked Input} {k next : ℕ} {before after : MachineRows} {r : Section} → r ≡ Read k next
+    → MachinesRead n es ts c r before after → MachinesFound n es ts c k before after
+unfolding MachinesRead
+machines-found q h = rw q at h
+
+pub machines-refused : (n : ℕ) (es : List Name) (ts : List Named) (before after : MachineRows) {c : Checked Input} {why : D.Refusal} {r : Section} → r ≡ Refused why
+    → MachinesRead n es ts c r before after → c ≡ refused (tabled why)
+unfolding MachinesRead
+machines-refused n es ts before after q h = rw q at h

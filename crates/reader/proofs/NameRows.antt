@@ -4,64 +4,45 @@ use Prim.Native.Nat.{ℕ, _+_, _<_, _≤_}
 use borrow.Author.Count.{below-more}
 use native.Mathlib.Omega.{arith}
 use mathlib.Core.Path.{_≡_, ap, sym, _∙_, subst}
-use mathlib.Core.Logic.{_⊎_, inl, inr}
+use mathlib.Core.Logic.{_⊎_, inl, inr, ⊎-elim}
 use mathlib.Core.Bool.{true, false, not}
 use mathlib.Core.List.{List, []}
 use lib.Dec.{T}
 use lib.ListN.{length, getD}
 use Rattle.model.specs.Lists.{At, exists, index}
 use Rattle.model.specs.Bytes.{Name, IsName, sameName}
+use Rattle.model.specs.Reading.{Parsed}
+use Rattle.model.specs.Form.{Line}
 use Rattle.model.specs.Text.{eventNumber, distinct}
-use Rattle.model.proofs.Laws.{dec, not-T, T-true, T-false}
+use Rattle.model.proofs.Laws.{order, dec, not-T, T-true, T-false}
 use Rattle.model.proofs.Positions.{at-below, at-getD, getD-mem, at-value, index-first, index-below, index-passes}
 use Rattle.model.proofs.Values.{same-eq, same-refl, mem-named, distinct-once, not-distinct}
 use Rattle.lexer.specs.Words.{high, low}
-use Rattle.lexer.proofs.Telling.{told, name-bytes}
-use Rattle.lines.specs.Lines.{eventsRows}
-use Rattle.lines.specs.declared.EventsLine.{EventsLine}
-use Rattle.lines.proofs.Rows.{row-at}
-use Rattle.reader.specs.Sections.{NameRows, Finds, Events}
+use Rattle.lexer.proofs.Telling.{name-bytes}
+use Rattle.lines.specs.declared.EventsAt.{EventsAt}
+use Rattle.lines.specs.Rows.{row, spots}
+use Rattle.lines.specs.Lines.{namesFrom, EventRows, FullRows, withNames}
+use Rattle.lines.proofs.Found.{GotEvents}
+use Rattle.quick_step.specs.Quick.{NameRows, Same}
+use Rattle.quick_step.proofs.Names.{entry, entry-name, entry-told}
+use Rattle.reader.specs.Sections.{Finds, noNames}
 use Rattle.reader.proofs.Searches.{Upto, index-is}
 
--- the entry j of the rows has the length n and the numbers h and l
-pub record Same (lens highs lows : List ℕ) (n h l j : ℕ) : Type 0 where
-  pub high : getD highs j 0 ≡ h
-  pub low : getD lows j 0 ≡ l
-  pub long : getD lens j 0 ≡ n
+-- the entry k has what is sought if and only if it is this name
+module _ {es : List Name} {count : ℕ} {lens highs lows : List ℕ} (r : NameRows es count lens highs lows) (k : ℕ) (b : k < count)
+    {e : Name} {n h l : ℕ} (w : IsName e) (p : n ≡ length e) (q : h ≡ high e) (o : l ≡ low e) where
+  same-name : Same lens highs lows n h l k → T (sameName e (getD es k []))
+  same-name s = subst (λ (x : Name). T (sameName e x)) (entry-told r k b (name-bytes e w) p q o s) (same-refl e)
 
-module _ {es : List Name} {count : ℕ} {lens highs lows : List ℕ} (r : NameRows es count lens highs lows) where
-  module _ (k : ℕ) (b : k < count) where
-    -- the rows tell the name k
-    pub entry : Same lens highs lows (length (getD es k [])) (high (getD es k [])) (low (getD es k [])) k
-    entry =
-        let e = getD es k [] in
-        let a : At es k e = at-getD es k [] (omega arith) in
-        record {
-          high = ap (λ (l : List ℕ). getD l k 0) (r .high) ∙ row-at high 64 0 es k e 0 (r .most) a;
-          low = ap (λ (l : List ℕ). getD l k 0) (r .low) ∙ row-at low 64 0 es k e 0 (r .most) a;
-          long = ap (λ (l : List ℕ). getD l k 0) (r .lengths) ∙ row-at length 64 0 es k e 0 (r .most) a;
-        }
-
-    pub entry-name : IsName (getD es k [])
-    entry-name = r .names (getD es k []) (getD-mem es k [] (omega arith))
-
-    module _ {e : Name} {n h l : ℕ} (w : IsName e) (p : n ≡ length e) (q : h ≡ high e) (o : l ≡ low e) where
-      -- the entry k has what is sought if and only if it is this name
-      same-name : Same lens highs lows n h l k → T (sameName e (getD es k []))
-      same-name s =
-          let t = entry in
-          let i : e ≡ getD es k [] = told e (getD es k []) (name-bytes e w) (name-bytes (getD es k []) entry-name) (cc) (cc) (cc) in
-          subst (λ (x : Name). T (sameName e x)) i (same-refl e)
-
-      name-same : T (sameName e (getD es k [])) → Same lens highs lows n h l k
-      name-same u =
-          let i : e ≡ getD es k [] = same-eq e (getD es k []) u in
-          let t = entry in
-          record {
-            high = t .high ∙ ap high (sym i) ∙ sym q;
-            low = t .low ∙ ap low (sym i) ∙ sym o;
-            long = t .long ∙ ap length (sym i) ∙ sym p;
-          }
+  name-same : T (sameName e (getD es k [])) → Same lens highs lows n h l k
+  name-same u =
+      let i : e ≡ getD es k [] = same-eq e (getD es k []) u in
+      let t = entry r k b in
+      record {
+        high = t .high ∙ ap high (sym i) ∙ sym q;
+        low = t .low ∙ ap low (sym i) ∙ sym o;
+        long = t .long ∙ ap length (sym i) ∙ sym p;
+      }
 
 -- the search stops at the entry, or at the end
 pub finds : {count : ℕ} {lens highs lows : List ℕ} {n h l k : ℕ} → Upto (λ j. Same lens highs lows n h l j → ⊥) count k
@@ -89,20 +70,21 @@ pub record Firsts (count : ℕ) (lens highs lows : List ℕ) (k : ℕ) : Type 0 
   pub most : k ≤ count
   pub own : (es : List Name) → NameRows es count lens highs lows → (j : ℕ) → j < k → eventNumber es (getD es j []) ≡ j
 
+-- of distinct names each is the first of its own
+pub own-number : (es : List Name) (k : ℕ) → k < length es → T (distinct es) → eventNumber es (getD es k []) ≡ k
+unfolding eventNumber
+own-number es k b t =
+    let e = getD es k [] in
+    let n = index (sameName e) es in
+    let u : T (exists (sameName e) es) = mem-named e es (getD-mem es k [] b) in
+    let p : e ≡ getD es n [] = same-eq e (getD es n []) (index-passes (sameName e) es [] u) in
+    let m : n ≤ k = index-first (sameName e) es k e (at-getD es k [] b) (same-refl e) in
+    let a : At es n e = subst (λ (x : Name). At es n x) (sym p) (at-getD es n [] (index-below (sameName e) es u)) in
+    ⊎-elim (λ (l : n < k). absurd (distinct-once es t e (n, k, l, a, at-getD es k [] b))) (λ l. omega arith) (order n k)
+
 -- a name that stands earlier too
 repeated : (es : List Name) (k : ℕ) → k < length es → (eventNumber es (getD es k []) ≡ k → ⊥) → false ≡ distinct es
-unfolding eventNumber
-repeated es k b o = sym (T-false (distinct es) (not-T (distinct es) twice))
-  where
-    twice : T (distinct es) → ⊥
-    twice t =
-        let e = getD es k [] in
-        let n = index (sameName e) es in
-        let u : T (exists (sameName e) es) = mem-named e es (getD-mem es k [] b) in
-        let p : e ≡ getD es n [] = same-eq e (getD es n []) (index-passes (sameName e) es [] u) in
-        let m : n ≤ k = index-first (sameName e) es k e (at-getD es k [] b) (same-refl e) in
-        let a : At es n e = subst (λ (x : Name). At es n x) (sym p) (at-getD es n [] (index-below (sameName e) es u)) in
-        distinct-once es t e (n, k, omega (arith, o), a, at-getD es k [] b)
+repeated es k b o = sym (T-false (distinct es) (not-T (distinct es) (λ t. o (own-number es k b t))))
 
 -- each name is the first of its own
 alone : (es : List Name) → ((k : ℕ) → k < length es → eventNumber es (getD es k []) ≡ k) → true ≡ distinct es
@@ -136,15 +118,33 @@ module _ {count : ℕ} {lens highs lows : List ℕ} {k : ℕ} (f : Firsts count 
   pub firsts-end : count ≤ k → (es : List Name) → NameRows es count lens highs lows → true ≡ distinct es
   firsts-end b es r = alone es (λ j i. f .own es r j (omega (arith, r .counted)))
 
--- the rows that an events line gives
-pub events-rows : {n : ℕ} {es : List Name} {line : EventsLine} → Events n es line → NameRows es (line .count) (line .«len») (line .«high») (line .«low»)
-unfolding eventsRows
-events-rows e =
+-- rows in which nothing is stored yet
+pub fresh-full : {r : EventRows} → r ≡ noNames → FullRows r
+fresh-full e =
     record {
-      counted = ap (λ (l : EventsLine). l .count) (e .rows);
-      most = e .most;
-      names = e .names;
-      lengths = ap (λ (l : EventsLine). l .«len») (e .rows);
-      high = ap (λ (l : EventsLine). l .«high») (e .rows);
-      low = ap (λ (l : EventsLine). l .«low») (e .rows);
+      placed-full = ap (λ (x : EventRows). length (x .placed)) e;
+      lengths-full = ap (λ (x : EventRows). length (x .lengths)) e;
+      highs-full = ap (λ (x : EventRows). length (x .highs)) e;
+      lows-full = ap (λ (x : EventRows). length (x .lows)) e;
     }
+
+-- the rows that an events line leaves in them
+module _ {o : Parsed Line} {at : ℕ} {r : EventsAt} {before after : EventRows} (g : GotEvents o at r before after) (fresh : before ≡ noNames) where
+  stored : after ≡ withNames (namesFrom at) noNames (g .names)
+  stored = rw fresh at (g .rows)
+
+  pub events-rows : r .count ≤ 64 → NameRows (g .names) (r .count) (after .lengths) (after .highs) (after .lows)
+  unfolding withNames row
+  events-rows few =
+      record {
+        counted = g .counted;
+        most = omega (arith, g .counted);
+        names = g .each;
+        lengths = ap (λ (x : EventRows). x .lengths) stored;
+        high = ap (λ (x : EventRows). x .highs) stored;
+        low = ap (λ (x : EventRows). x .lows) stored;
+      }
+
+  pub events-placed : after .placed ≡ row 64 0 (spots (namesFrom at) (g .names))
+  unfolding withNames row
+  events-placed = ap (λ (x : EventRows). x .placed) stored

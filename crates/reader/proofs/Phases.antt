@@ -10,6 +10,8 @@ use borrow.Author.Tests.{le-leb, lt-leb}
 use lib.ListN.{length, length-append, length-map}
 use Rattle.model.specs.Lists.{exists, index, count}
 use Rattle.model.specs.Refusal.{refuse, Checked, refused, passed}
+use Rattle.model.specs.declared.Refusal as D
+use Rattle.model.specs.Cases.{tabled}
 use Rattle.model.specs.Machine.{Place, Machine}
 use Rattle.model.specs.Bytes.{Name, sameName}
 use Rattle.model.specs.Reading.{fail, got}
@@ -22,10 +24,13 @@ use Rattle.model.proofs.Counting.{count-append, count-map-all, count-map-none, 
 use Rattle.model.proofs.Values as Values
 use Rattle.model.proofs.Values.{Named, lines}
 use Rattle.model.proofs.Lines.{line-sound}
-use Rattle.lines.specs.declared.EventsLine.{EventsLine}
-use Rattle.lines.specs.Lines.{allBelow, eventsRows, namesFrom}
-use Rattle.lines.proofs.Found.{GotEvents}
-use Rattle.reader.specs.Sections.{Events, Rest, begun}
+use Rattle.lines.specs.Lines.{EventRows, allBelow}
+use Rattle.reader.specs.declared.Declared.{Declared}
+use Rattle.reader.specs.declared.FirstLines.{FirstLines}
+use Rattle.reader.specs.declared.FirstLines.the-variants as F
+use Rattle.reader.specs.declared.Section.{Section}
+use Rattle.reader.specs.declared.Section.the-variants.{Refused, Read}
+use Rattle.reader.specs.Sections.{Rest, begun, StatesFound, StatesRead, EventsFound, EventsRead, FirstFound, FirstRead}
 use Rattle.reader.proofs.Rest.{rest-start, rest-end, rest-fail, rest-none, rest-limit, rest-undeclared, rest-more}
 
 -- a test that agrees with an order
@@ -93,15 +98,31 @@ module _ {s : List ℕ} {n at : ℕ} {c : Checked Input} (r : Rest s (states n �
       unfolding lineAfter inLimit isDeclared
       events-more d = rest-more r g (le-leb (length es) 64 k) d
 
--- the line's rows, after the line of n states
-pub events-held : (s : List ℕ) {n at : ℕ} {line : EventsLine} → statesLine s 0 ≡ got (states n) at → (e : GotEvents (eventsLine s at) at line)
-    → line .count ≡ length (e .names) → line .count ≤ 64 → Events n (e .names) line
-events-held s {line = line} g e q h =
-    record {
-      most = omega arith;
-      names = e .each;
-      rows = subst (λ (x : ℕ). line ≡ eventsRows true (namesFrom x) (e .names) (line .next)) (states-next s g) (e .rows);
-    }
+-- ---- the first two lines, from the code's answers
+
+pub states-found : {s : List ℕ} {n next : ℕ} {r : Section} → r ≡ Read n next → StatesRead s r → StatesFound s n next
+unfolding StatesRead
+states-found q h = rw q at h
+
+pub events-found : {s : List ℕ} {at n k next : ℕ} {c : Checked Input} {after : EventRows} {r : Section} → r ≡ Read k next → EventsRead s at n c r after
+    → EventsFound s at n c k next after
+unfolding EventsRead
+events-found q h = rw q at h
+
+pub events-refused : (s : List ℕ) (at n : ℕ) (after : EventRows) {c : Checked Input} {why : D.Refusal} {r : Section} → r ≡ Refused why → EventsRead s at n c r after
+    → c ≡ refused (tabled why)
+unfolding EventsRead
+events-refused s at n after q h = rw q at h
+
+-- both are read; the second begins where the first ends
+pub first-found : {s : List ℕ} {at n k next : ℕ} {after : EventRows} → StatesFound s n at → EventsFound s at n (read s) k next after
+    → FirstFound s (record { states = n; events = k; next = next }) after
+first-found {s} {n = n} {k} {next} {after} f e =
+    record { few = f .few; found = subst (λ (x : ℕ). EventsFound s x n (read s) k next after) (states-next s (f .line)) e }
+
+pub first-read : {s : List ℕ} {d : Declared} {after : EventRows} {r : FirstLines} → r ≡ F.Read d → FirstRead s r after → FirstFound s d after
+unfolding FirstRead
+first-read q h = rw q at h
 
 -- ---- the lines read so far, counted
 

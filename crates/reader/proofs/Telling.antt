@@ -11,7 +11,9 @@ use lib.Dec.{T, eqb}
 use lib.ListN.{length, getD, take, List·getD-append}
 use lib.Seq.{take-suc, take-length, getD-append-add}
 use Rattle.model.specs.Lists.{At, elem, lowest}
-use Rattle.model.specs.Refusal.{passed, refusalOf}
+use Rattle.model.specs.Refusal.{Checked, refused, passed, refusalOf}
+use Rattle.model.specs.declared.Refusal as D
+use Rattle.model.specs.Cases.{tabled}
 use Rattle.model.specs.TransitionSystem.{Transition, TransitionSystem}
 use Rattle.model.specs.Machine.{Place, Machine, duplicateState}
 use Rattle.model.specs.Machine as M
@@ -24,11 +26,16 @@ use Rattle.model.proofs.Naming.{name-part}
 use Rattle.model.proofs.Verdicts.{read-iff}
 use Rattle.lines.specs.Rows.{row, tabulate, placeMark, orNoState}
 use Rattle.lines.proofs.Rows.{getD-row, row-at, getD-tabulate, length-tabulate, getD-placeRow, length-placeRow}
+use Rattle.reader.specs.declared.Verdict.{Verdict}
+use Rattle.reader.specs.declared.Verdict.the-variants as Answer
+use Rattle.reader.specs.declared.Counts.{Counts}
 use Rattle.reader.specs.declared.Tables.{Tables}
 use Rattle.reader.specs.declared.Reading.{Reading}
-use Rattle.reader.specs.Tables.{verdictRefusal, tablesOf, Answers}
+use Rattle.reader.specs.Tables.{verdictRefusal, tablesOf, tablesIn, Answers}
+use Rattle.reader.specs.Lent.{ReadsRows, AnswersRows, Holds}
 use Rattle.reader.specs.Told.{entry, firstTransitions, systemOf, nameOf, orNone, placeAt, duplicateAt, MachineTold, MachinesTold, Told}
 use Rattle.reader.proofs.MachineSection.{rowOf, length-rows}
+use Rattle.reader.proofs.Answering.{answers-refused}
 
 -- ---- marks as options
 
@@ -87,6 +94,16 @@ rows-at (y ∷ ms) zero m x d a h =
 rows-at (y ∷ ms) (suc k) m x d a h =
     let z : suc k * 256 + x ≡ length (rowOf y) + (k * 256 + x) = omega (arith, length-placeRow (y .places)) in
     rw z (getD-append-add (rowOf y) (flatMap rowOf ms) (k * 256 + x) d ∙ rows-at ms k m x d a h)
+
+-- ---- verdicts as answers
+
+refused-is : (why : D.Refusal) (c : Checked Input) → some (tabled why) ≡ refusalOf c → c ≡ refused (tabled why)
+refused-is why (refused r) e = ap refused (sym (Option·some-injective (tabled why) r e))
+refused-is why (passed v) e = absurd (Option·none-ne-some (tabled why) (sym e))
+
+passed-is : (c : Checked Input) → none ≡ refusalOf c → (v : Input) × (c ≡ passed v)
+passed-is (refused r) e = absurd (Option·none-ne-some r e)
+passed-is (passed v) e = (v, refl)
 
 -- ---- the tables of a value within its limits
 
@@ -154,10 +171,26 @@ module _ (v : Input) (l : Limits v) where
 pub told : (s : List ℕ) (v : Input) → read s ≡ passed v → Told s v (tablesOf (read s))
 told s v e = let r = read-iff s v .0 e in rw (e, r .0) (value-told v (r .1))
 
--- the public contract, from the answer
+-- the public contracts, from the answers
 pub answering : (s : List ℕ) (r : Reading) → Answers (read s) r
     → (verdictRefusal (r .verdict) ≡ refusalOf (read s)) × ((r .tables ≡ tablesOf (read s)) × ((v : Input) → read s ≡ passed v → Told s v (r .tables)))
 answering s r a = (a .verdict, (a .rows, λ v e. subst (Told s v) (sym (a .rows)) (told s v e)))
+
+module _ (s : List ℕ) {w : Verdict} {k : Counts} {ats lens sources events targets sizes duplicates places : List ℕ} where
+  pub answering-rows : AnswersRows (read s) w k (tablesIn k ats lens sources events targets sizes duplicates places)
+      → (verdictRefusal w ≡ refusalOf (read s)) × ReadsRows s k ats lens sources events targets sizes duplicates places
+  answering-rows a = (
+    a .verdict,
+    record { tables = a .rows; told = λ v e. subst (Told s v) (sym (a .rows v e)) (subst (λ (c : Checked Input). Told s v (tablesOf c)) e (told s v e)); none = a .none },
+  )
+
+-- rows that were read are the tables of the answer
+module _ (s : List ℕ) (k : Counts) (ats lens sources events targets sizes duplicates places : List ℕ) where
+  pub holds-answers : (w : Verdict) (r : Reading) → verdictRefusal w ≡ refusalOf (read s) → ReadsRows s k ats lens sources events targets sizes duplicates places
+      → Holds w (tablesIn k ats lens sources events targets sizes duplicates places) r → Answers (read s) r
+  unfolding verdictRefusal Holds
+  holds-answers (Answer.Refused why) r q o h = answers-refused (refused-is why (read s) q) (h .0) (h .1)
+  holds-answers Answer.Passed r q o h = let (v, u) = passed-is (read s) q in rw h (record { verdict = q; rows = o .tables v u ∙ ap tablesOf (sym u) })
 
 -- ---- what is told of the transition system, part by part
 

@@ -2,34 +2,34 @@
 use Prim.Native.Nat.{ℕ, _+_, _<_, _≤_}
 use mathlib.Core.Path.{_≡_}
 use mathlib.Core.Bool.{true}
-use mathlib.Core.List.{List, [], map, flatMap, List·Memᴰ}
+use mathlib.Core.List.{List, [], _∷_, map, flatMap}
 use lib.ListN.{length, replicate}
 use lib.Seq.{sets}
 use Rattle.model.specs.Refusal.{Checked, refused, passed}
+use Rattle.model.specs.declared.Refusal as D
 use Rattle.model.specs.Cases.{tabled}
 use Rattle.model.specs.Machine.{Machine}
 use Rattle.model.specs.Bytes.{Name, IsName}
-use Rattle.model.specs.Reading.{fail}
-use Rattle.model.specs.Form.{Line, states, written, stepLine}
-use Rattle.model.specs.Text.{Input, linesFrom, eventNumber, valueOf}
+use Rattle.model.specs.Reading.{fail, got}
+use Rattle.model.specs.Form.{Line, states, step, written, statesLine, stepLine}
+use Rattle.model.specs.Text.{Input, linesFrom, eventNumber, valueOf, distinct, read}
 use Rattle.model.proofs.Values.{Named, lines}
 use Rattle.lexer.specs.Words as Words
-use Rattle.lines.specs.declared.EventsLine.{EventsLine}
-use Rattle.lines.specs.Rows.{row, placeRow}
-use Rattle.lines.specs.Lines.{duplicateMark, eventsRows, namesFrom}
-use Rattle.reader.specs.declared.Reading.{Reading}
+use Rattle.lines.specs.Rows.{row, spots, placeRow}
+use Rattle.lines.specs.Lines.{duplicateMark, EventRows, eventRows, namesFrom}
+use Rattle.quick_step.specs.Quick.{NameRows}
+use Rattle.reader.specs.declared.Counts.{Counts}
+use Rattle.reader.specs.declared.Tables.{Tables}
+use Rattle.reader.specs.declared.Counted.{Counted}
+use Rattle.reader.specs.declared.Declared.{Declared}
+use Rattle.reader.specs.declared.FirstLines.{FirstLines}
+use Rattle.reader.specs.declared.FirstLines.the-variants as F
+use Rattle.reader.specs.declared.StepAt.{StepAt}
+use Rattle.reader.specs.declared.StepAt.the-variants as A
 use Rattle.reader.specs.declared.Section.{Section}
 use Rattle.reader.specs.declared.Section.the-variants.{Refused, Read}
-use Rattle.reader.specs.Tables.{Answers}
-
--- the rows of an events line hold these names
-pub record NameRows (es : List Name) (count : ℕ) (lens highs lows : List ℕ) : Type 0 where
-  pub counted : count ≡ length es
-  pub most : length es ≤ 64
-  pub names : (e : Name) → List·Memᴰ e es → IsName e
-  pub lengths : lens ≡ row 64 0 (map length es)
-  pub high : highs ≡ row 64 0 (map Words.high es)
-  pub low : lows ≡ row 64 0 (map Words.low es)
+use Rattle.reader.specs.Tables.{tablesIn}
+use Rattle.reader.specs.Lent.{AnswersRows}
 
 -- what looking a name up answers
 pub record Finds (count : ℕ) (lens highs lows : List ℕ) (n h l r : ℕ) : Type 0 where
@@ -37,11 +37,15 @@ pub record Finds (count : ℕ) (lens highs lows : List ℕ) (n h l r : ℕ) : Ty
   pub number : (es : List Name) → NameRows es count lens highs lows → (e : Name) → IsName e → n ≡ length e → h ≡ Words.high e → l ≡ Words.low e
       → r ≡ eventNumber es e
 
--- an events line with these names, after the line of n states
-pub record Events (n : ℕ) (es : List Name) (line : EventsLine) : Type 0 where
-  pub most : length es ≤ 64
-  pub names : (e : Name) → List·Memᴰ e es → IsName e
-  pub rows : line ≡ eventsRows true (namesFrom (length (written (states n)))) es (line .next)
+-- the rows hold these names, and none stands twice
+pub record DistinctRows (es : List Name) (count : ℕ) (lens highs lows : List ℕ) : Type 0 where
+  pub rows : NameRows es count lens highs lows
+  pub once : distinct es ≡ true
+
+-- the rows hold names
+pub record Declares (count : ℕ) (lens highs lows : List ℕ) : Type 0 where
+  pub names : List Name
+  pub held : DistinctRows names count lens highs lows
 
 -- the lines from a position on, after these, come to c
 pub record Rest (s : List ℕ) (ls : List Line) (at : ℕ) (c : Checked Input) : Type 0 where
@@ -70,6 +74,64 @@ withSteps es r ts =
       target = sets (r .target) 0 (map (λ (t : Named). t .target) ts);
     }
 
+-- a step line at a position, after k others: its states are below n, and its event is number e of the names
+pub record StepFound (s : List ℕ) (at n count : ℕ) (lens highs lows : List ℕ) (k a e b next : ℕ) : Type 0 where
+  pub name : Name
+  pub line : stepLine s at ≡ got (step a name b) next
+  pub room : k < 1024
+  pub source : a < n
+  pub event : e < count
+  pub target : b < n
+  pub number : (es : List Name) → DistinctRows es count lens highs lows → e ≡ eventNumber es name
+
+-- one that is refused
+pub record StepRefused (s : List ℕ) (at n count : ℕ) (lens highs lows : List ℕ) (k : ℕ) (why : D.Refusal) : Type 0 where
+  pub stops : (es : List Name) (ts : List Named) (c : Checked Input) → DistinctRows es count lens highs lows → k ≡ length ts → Rest s (begun n es ts) at c
+      → c ≡ refused (tabled why)
+
+unfoldable pub StepRead : List ℕ → ℕ → ℕ → ℕ → List ℕ → List ℕ → List ℕ → ℕ → StepAt → Type 0
+StepRead s at n count lens highs lows k A.Missing = stepLine s at ≡ fail
+StepRead s at n count lens highs lows k (A.Refused why) = StepRefused s at n count lens highs lows k why
+StepRead s at n count lens highs lows k (A.Found a e b next) = StepFound s at n count lens highs lows k a e b next
+
+-- the states line is read, within the limits
+pub record StatesFound (s : List ℕ) (n next : ℕ) : Type 0 where
+  pub few : n ≤ 256
+  pub line : statesLine s 0 ≡ got (states n) next
+  pub rest : Rest s (states n ∷ []) next (read s)
+
+unfoldable pub StatesRead : List ℕ → Section → Type 0
+StatesRead s (Refused why) = read s ≡ refused (tabled why)
+StatesRead s (Read n next) = StatesFound s n next
+
+-- the rows before an events line is read
+abbrev pub noNames : EventRows
+noNames = eventRows (replicate 64 0) (replicate 64 0) (replicate 64 0) (replicate 64 0)
+
+-- the events line is read, its names into rows
+pub record EventsFound (s : List ℕ) (at n : ℕ) (c : Checked Input) (k next : ℕ) (after : EventRows) : Type 0 where
+  pub names : List Name
+  pub held : DistinctRows names k (after .lengths) (after .highs) (after .lows)
+  pub placed : after .placed ≡ row 64 0 (spots (namesFrom at) names)
+  pub rest : Rest s (begun n names []) next c
+
+unfoldable pub EventsRead : List ℕ → ℕ → ℕ → Checked Input → Section → EventRows → Type 0
+EventsRead s at n c (Refused why) after = c ≡ refused (tabled why)
+EventsRead s at n c (Read k next) after = EventsFound s at n c k next after
+
+-- an events line at a position, after n states
+unfoldable pub ReadsEvents : List ℕ → ℕ → Section → EventRows → Type 0
+ReadsEvents s at r after = (n : ℕ) (c : Checked Input) → Rest s (states n ∷ []) at c → EventsRead s at n c r after
+
+-- the first two lines are read
+pub record FirstFound (s : List ℕ) (d : Declared) (after : EventRows) : Type 0 where
+  pub few : d .states ≤ 256
+  pub found : EventsFound s (length (written (states (d .states)))) (d .states) (read s) (d .events) (d .next) after
+
+unfoldable pub FirstRead : List ℕ → FirstLines → EventRows → Type 0
+FirstRead s (F.Refused why) after = read s ≡ refused (tabled why)
+FirstRead s (F.Read d) after = FirstFound s d after
+
 -- how many lines were read
 unfoldable pub countOf : Section → ℕ
 countOf (Refused why) = 0
@@ -87,11 +149,10 @@ unfoldable pub StepsRead : List ℕ → ℕ → List Name → Checked Input → 
 StepsRead s n es c (Refused why) before after = c ≡ refused (tabled why)
 StepsRead s n es c (Read k next) before after = StepsFound s n es c k next before after
 
--- step lines at a position, after n states and the names of an events line
-unfoldable pub ReadsSteps : List ℕ → ℕ → ℕ → EventsLine → Section → TransitionRows → TransitionRows → Type 0
-ReadsSteps s at n line r before after =
-    (es : List Name) (c : Checked Input) → NameRows es (line .count) (line .«len») (line .«high») (line .«low») → Rest s (begun n es []) at c
-    → StepsRead s n es c r before after
+-- step lines at a position, after n states and the names in the rows
+unfoldable pub ReadsSteps : List ℕ → ℕ → ℕ → ℕ → List ℕ → List ℕ → List ℕ → Section → TransitionRows → TransitionRows → Type 0
+ReadsSteps s at n count lens highs lows r before after =
+    (es : List Name) (c : Checked Input) → DistinctRows es count lens highs lows → Rest s (begun n es []) at c → StepsRead s n es c r before after
 
 pub record MachineRows : Type 0 where
   pub sizes : List ℕ
@@ -130,12 +191,22 @@ ReadsMachines s at n line r before after =
 abbrev pub noSteps : TransitionRows
 noSteps = transitionRows (replicate 1024 0) (replicate 1024 0) (replicate 1024 0)
 
--- the answer to a text whose events and k steps are read
-unfoldable pub ReadsLast : List ℕ → ℕ → ℕ → EventsLine → ℕ → TransitionRows → Reading → Type 0
-ReadsLast s at n line k rows r =
-    (es : List Name) (ts : List Named) (c : Checked Input) → Events n es line → k ≡ length ts → rows ≡ withSteps es noSteps ts → stepLine s at ≡ fail
-    → Rest s (begun n es ts) at c → Answers c r
+-- the rows before a machine line is read
+abbrev pub noMachines : MachineRows
+noMachines = machineRows (replicate 16 0) (replicate 16 256) (replicate 4096 255)
 
--- the answer to a text whose events are read
-unfoldable pub ReadsLines : List ℕ → ℕ → EventsLine → Reading → Type 0
-ReadsLines s n line r = (es : List Name) (c : Checked Input) → Events n es line → Rest s (begun n es []) (line .next) c → Answers c r
+-- counts and rows as one value
+abbrev pub joined : Counts → List ℕ → List ℕ → TransitionRows → MachineRows → Tables
+joined c ats lens steps machines =
+    tablesIn c ats lens (steps .source) (steps .event) (steps .target) (machines .sizes) (machines .duplicate) (machines .places)
+
+-- the counts that are answered
+abbrev pub counts : ℕ → ℕ → ℕ → ℕ → Counts
+counts n events transitions machines = record { states = n; initial = 0; events = events; transitions = transitions; machines = machines }
+
+-- the answer to a text whose first two lines are read, with the row of the names' positions
+unfoldable pub ReadsLines : List ℕ → Declared → List ℕ → List ℕ → List ℕ → Counted → TransitionRows → MachineRows → Type 0
+ReadsLines s d lens highs lows r steps machines =
+    (es : List Name) (c : Checked Input) (ats : List ℕ) → DistinctRows es (d .events) lens highs lows
+    → ats ≡ row 64 0 (spots (namesFrom (length (written (states (d .states))))) es) → Rest s (begun (d .states) es []) (d .next) c
+    → AnswersRows c (r .verdict) (r .counts) (joined (r .counts) ats lens steps machines)

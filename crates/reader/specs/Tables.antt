@@ -1,6 +1,7 @@
 -- The rows that hold what a text gives.
 use mathlib.Core.Path.{_≡_}
-use mathlib.Core.List.{[], map, flatMap}
+use Prim.Native.Nat.{ℕ}
+use mathlib.Core.List.{List, [], map, flatMap}
 use mathlib.Core.Option.{Option, none, some}
 use lib.ListN.{length}
 use Rattle.model.specs.Refusal.{Refusal, Checked, refused, passed, refusalOf}
@@ -11,6 +12,7 @@ use Rattle.model.specs.Text.{Input, system, nameAt}
 use Rattle.lines.specs.Rows.{row, tabulate, placeRow, orNoState}
 use Rattle.reader.specs.declared.Verdict.{Verdict}
 use Rattle.reader.specs.declared.Verdict.the-variants.{Refused, Passed}
+use Rattle.reader.specs.declared.Counts.{Counts}
 use Rattle.reader.specs.declared.Tables.{Tables}
 use Rattle.reader.specs.declared.Reading.{Reading}
 
@@ -59,6 +61,28 @@ tablesOf (passed v) =
       duplicate = row 16 256 (map (λ (m : Machine). orNoState (duplicateState (system v) m)) (v .machines));
       place = row 4096 255 (flatMap (λ (m : Machine). placeRow (m .places)) (v .machines));
     }
+
+-- counts and rows as one value
+abbrev pub tablesIn : Counts → List ℕ → List ℕ → List ℕ → List ℕ → List ℕ → List ℕ → List ℕ → List ℕ → Tables
+tablesIn c ats lens sources events targets sizes duplicates places =
+    record {
+      states = c .states;
+      initial = c .initial;
+      events = c .events;
+      «name_at» = ats;
+      «name_len» = lens;
+      transitions = c .transitions;
+      source = sources;
+      event = events;
+      target = targets;
+      machines = c .machines;
+      sizes = sizes;
+      duplicate = duplicates;
+      place = places;
+    }
+
+unfoldable pub noCounts : Counts
+noCounts = record { states = 0; initial = 0; events = 0; transitions = 0; machines = 0 }
 
 -- the answer to a text that comes to c
 pub record Answers (c : Checked Input) (r : Reading) : Type 0 where

@@ -11,12 +11,14 @@ ghost use Rattle.model.specs.Refusal.{passed, refusalOf};
 ghost use Rattle.model.specs.Cases.{tabled};
 ghost use Rattle.model.specs.Bytes.{Name};
 ghost use Rattle.model.specs.Text as Text;
+ghost use Rattle.lines.specs.Lines.{eventRows};
+ghost use Rattle.quick_step.specs.Quick.{NameRows};
 ghost use Rattle.reader.specs.declared.Verdict.the-variants.{Passed};
-ghost use Rattle.reader.specs.Tables.{verdictRefusal, tablesOf, noTables};
+ghost use Rattle.reader.specs.Tables.{verdictRefusal, tablesOf, noTables, tablesIn, noCounts};
 ghost use Rattle.reader.specs.Told.{Told};
-ghost use Rattle.reader.specs.Sections.{NameRows, Finds, countOf, ReadsSteps, transitionRows, ReadsMachines, machineRows, ReadsLast, ReadsLines};
+ghost use Rattle.reader.specs.Lent.{FreshRows, ReadsRows, Holds};
+ghost use Rattle.reader.specs.Sections.{Finds, Declares, StepRead, countOf, StatesRead, noNames, ReadsEvents, FirstRead, ReadsSteps, transitionRows, noSteps, ReadsMachines, machineRows, noMachines, counts, ReadsLines};
 use lexer::Word;
-use lines::EventsLine;
 use lines::NO_STATE;
 use lines::StepLine;
 use lines::UNPLACED;
@@ -31,6 +33,10 @@ use model::MAX_STATES;
 use model::MAX_TEXT;
 use model::MAX_TRANSITIONS;
 use model::Refusal;
+use quick_step::HINTS;
+use quick_step::QuickStep;
+use quick_step::fill_hints;
+use quick_step::quick_step;
 
 // What a check answers, here whether a text passes 1 to 3.
 pub enum Verdict {
@@ -57,6 +63,21 @@ pub struct Tables {
     pub duplicate: [usize; MAX_MACHINES],
     // at m * 256 + x the place of state x in machine m, or UNPLACED
     pub place: [u8; 4096],
+}
+
+// How many states, events, transitions and machines a text has, and its initial state.
+pub struct Counts {
+    pub states: usize,
+    pub initial: usize,
+    pub events: usize,
+    pub transitions: usize,
+    pub machines: usize,
+}
+
+// The answer to a text whose rows are lent. Refused, its counts are all 0, and what the rows hold is left open.
+pub struct Counted {
+    pub verdict: Verdict,
+    pub counts: Counts,
 }
 
 // The answer to a text. Refused, its tables are all 0.
@@ -95,7 +116,7 @@ fn refused(why: Refusal) -> Reading
     }
 }
 
-// The first of the names with this length and these bytes; their count if there is none.
+// The first of the names with this length and these bytes; their count if there is none. Names share beginnings, so their last bytes are compared first.
 fn find_name<'a>(
     len: &'a [usize; MAX_EVENTS],
     high: &'a [u64; MAX_EVENTS],
@@ -110,8 +131,8 @@ fn find_name<'a>(
 {
     let mut k = 0;
     while k < count {
-        if high[k] == h {
-            if low[k] == l {
+        if low[k] == l {
+            if high[k] == h {
                 if len[k] == n {
                     return k;
                 }
@@ -168,43 +189,126 @@ fn all_declared(a: usize, b: usize, n: usize, e: usize, m: usize) -> bool
     false
 }
 
-// The step lines at a position, against n states and the names of an events line.
-fn read_transitions(
+// The step line at a position: none, its refusal, or its numbers and the position after it.
+enum StepAt {
+    Missing,
+    Refused(Refusal),
+    Found {
+        source: usize,
+        event: usize,
+        target: usize,
+        next: usize,
+    },
+}
+
+// The step line at a position, after k others, against n states and the names in the rows. It is read word by word.
+fn read_words<'a>(
     s: &[u8],
     at: usize,
     n: usize,
-    names: EventsLine,
+    len: &'a [usize; MAX_EVENTS],
+    high: &'a [u64; MAX_EVENTS],
+    low: &'a [u64; MAX_EVENTS],
+    count: usize,
+    k: usize,
+) -> StepAt
+    requires { ⌜ (count ≤ 64) × (k ≤ 1024) ⌝ }
+    ensures { λ r. ⌜ StepRead (now (s .entry)) at n count (now («len» .entry)) (now («high» .entry)) (now («low» .entry)) k r ⌝ }
+{
+    let StepLine::Found(step) = read_step(s, at) else {
+        return StepAt::Missing;
+    };
+    let line = 3 + k;
+    if MAX_TRANSITIONS <= k {
+        return StepAt::Refused(Refusal::LimitExceeded { line });
+    }
+    let source = step.source;
+    let target = step.target;
+    let event = find_name(len, high, low, count, step.len, step.high, step.low);
+    if !all_declared(source, target, n, event, count) {
+        return StepAt::Refused(Refusal::Undeclared { line });
+    }
+    StepAt::Found {
+        source,
+        event,
+        target,
+        next: step.next,
+    }
+}
+
+// The same line, by words only where it is not read quickly.
+fn step_at<'a>(
+    s: &[u8],
+    at: usize,
+    n: usize,
+    len: &'a [usize; MAX_EVENTS],
+    high: &'a [u64; MAX_EVENTS],
+    low: &'a [u64; MAX_EVENTS],
+    count: usize,
+    hints: &'a [u8; HINTS],
+    k: usize,
+) -> StepAt
+    requires { ⌜ (count ≤ 64) × (k ≤ 1024) × Declares count (now «len») (now «high») (now «low») ⌝ }
+    ensures { λ r. ⌜ StepRead (now (s .entry)) at n count (now («len» .entry)) (now («high» .entry)) (now («low» .entry)) k r ⌝ }
+{
+    let QuickStep::Found {
+        source,
+        event,
+        target,
+        next,
+    } = quick_step(s, at, n, len, high, low, count, hints)
+    else {
+        return read_words(s, at, n, len, high, low, count, k);
+    };
+    if MAX_TRANSITIONS <= k {
+        return StepAt::Refused(Refusal::LimitExceeded { line: 3 + k });
+    }
+    StepAt::Found {
+        source,
+        event,
+        target,
+        next,
+    }
+}
+
+// The step lines at a position, against n states and the names in the rows.
+fn read_transitions<'a>(
+    s: &[u8],
+    at: usize,
+    n: usize,
+    len: &'a [usize; MAX_EVENTS],
+    high: &'a [u64; MAX_EVENTS],
+    low: &'a [u64; MAX_EVENTS],
+    count: usize,
     source: &mut [u8; MAX_TRANSITIONS],
     event: &mut [u8; MAX_TRANSITIONS],
     target: &mut [u8; MAX_TRANSITIONS],
 ) -> Section
-    requires { ⌜ (n ≤ 256) × (names .count ≤ 64) ⌝ }
+    requires { ⌜ (n ≤ 256) × (count ≤ 64) × Declares count (now «len») (now «high») (now «low») ⌝ }
     ensures { λ r. ⌜ countOf r ≤ 1024 ⌝ }
-    ensures { λ r. ⌜ ReadsSteps (now (s .entry)) at n names r (transitionRows (now (source .entry)) (now (event .entry)) (now (target .entry))) (transitionRows (now (source .exit)) (now (event .exit)) (now (target .exit))) ⌝ }
+    ensures { λ r. ⌜ ReadsSteps (now (s .entry)) at n count (now («len» .entry)) (now («high» .entry)) (now («low» .entry)) r (transitionRows (now (source .entry)) (now (event .entry)) (now (target .entry))) (transitionRows (now (source .exit)) (now (event .exit)) (now (target .exit))) ⌝ }
 {
-    let count = names.count;
+    let mut hints = [0u8; HINTS];
+    fill_hints(high, low, count, &mut hints);
     let mut k = 0;
     let mut i = at;
     loop {
-        let StepLine::Found(step) = read_step(s, i) else {
-            return Section::Read { count: k, next: i };
-        };
-        let line = 3 + k;
-        if MAX_TRANSITIONS <= k {
-            return Section::Refused(Refusal::LimitExceeded { line });
+        match step_at(s, i, n, len, high, low, count, &hints, k) {
+            StepAt::Missing => return Section::Read { count: k, next: i },
+            StepAt::Refused(why) => return Section::Refused(why),
+            StepAt::Found {
+                source: a,
+                event: e,
+                target: b,
+                next,
+            } => {
+                source[k] = narrow(a);
+                event[k] = narrow(e);
+                target[k] = narrow(b);
+                k += 1;
+                i = next;
+            }
         }
-        let len = step.len;
-        let high = step.high;
-        let low = step.low;
-        let e = find_name(&names.len, &names.high, &names.low, count, len, high, low);
-        if !all_declared(step.source, step.target, n, e, count) {
-            return Section::Refused(Refusal::Undeclared { line });
-        }
-        source[k] = narrow(step.source);
-        event[k] = narrow(e);
-        target[k] = narrow(step.target);
-        k += 1;
-        i = step.next;
     }
 }
 
@@ -272,70 +376,242 @@ fn read_machines(
     Section::Read { count: k, next: i }
 }
 
-fn passed(tables: Tables) -> Reading
-    ensures { λ r. ⌜ r ≡ record { verdict = Passed; tables = tables } ⌝ }
+// How many states a text has, if it and they are within the limits, and the position after their line.
+fn declared_states(s: &[u8]) -> Section
+    ensures { λ r. ⌜ StatesRead (now (s .entry)) r ⌝ }
 {
-    Reading {
-        verdict: Verdict::Passed,
-        tables,
+    if MAX_TEXT < s.len() {
+        return Section::Refused(Refusal::LimitExceeded { line: 0 });
+    }
+    let Word::Found { value: n, next } = read_states(s, 0) else {
+        return Section::Refused(Refusal::Malformed { line: 1 });
+    };
+    if n < 1 {
+        return Section::Refused(Refusal::LimitExceeded { line: 1 });
+    }
+    if MAX_STATES < n {
+        return Section::Refused(Refusal::LimitExceeded { line: 1 });
+    }
+    Section::Read { count: n, next }
+}
+
+// The names of the events line at a position, into rows of 0.
+fn declared_events(
+    s: &[u8],
+    at: usize,
+    spot: &mut [usize; MAX_EVENTS],
+    len: &mut [usize; MAX_EVENTS],
+    high: &mut [u64; MAX_EVENTS],
+    low: &mut [u64; MAX_EVENTS],
+) -> Section
+    requires { ⌜ eventRows (now spot) (now «len») (now «high») (now «low») ≡ noNames ⌝ }
+    ensures { λ r. ⌜ ReadsEvents (now (s .entry)) at r (eventRows (now (spot .exit)) (now («len» .exit)) (now («high» .exit)) (now («low» .exit))) ⌝ }
+{
+    let names = read_events(s, at, spot, len, high, low);
+    let formed = names.formed;
+    let count = names.count;
+    if !formed {
+        return Section::Refused(Refusal::Malformed { line: 2 });
+    }
+    if MAX_EVENTS < count {
+        return Section::Refused(Refusal::LimitExceeded { line: 2 });
+    }
+    if !distinct_names(len, high, low, count) {
+        return Section::Refused(Refusal::Undeclared { line: 2 });
+    }
+    Section::Read {
+        count,
+        next: names.next,
     }
 }
 
-// The answer, once k step lines are read into rows.
-fn with_machines(
+// What the first two lines declare: how many states and events, and the position after them.
+struct Declared {
+    states: usize,
+    events: usize,
+    next: usize,
+}
+
+enum FirstLines {
+    Refused(Refusal),
+    Read(Declared),
+}
+
+// The first two lines of a text, the names into rows of 0.
+fn read_first_lines(
     s: &[u8],
-    at: usize,
-    n: usize,
-    names: EventsLine,
-    k: usize,
+    spot: &mut [usize; MAX_EVENTS],
+    len: &mut [usize; MAX_EVENTS],
+    high: &mut [u64; MAX_EVENTS],
+    low: &mut [u64; MAX_EVENTS],
+) -> FirstLines
+    requires { ⌜ eventRows (now spot) (now «len») (now «high») (now «low») ≡ noNames ⌝ }
+    ensures { λ r. ⌜ FirstRead (now (s .entry)) r (eventRows (now (spot .exit)) (now («len» .exit)) (now («high» .exit)) (now («low» .exit))) ⌝ }
+{
+    match declared_states(s) {
+        Section::Refused(why) => FirstLines::Refused(why),
+        Section::Read {
+            count: states,
+            next: at,
+        } => {
+            match declared_events(s, at, spot, len, high, low) {
+                Section::Refused(why) => FirstLines::Refused(why),
+                Section::Read {
+                    count: events,
+                    next,
+                } => FirstLines::Read(Declared {
+                    states,
+                    events,
+                    next,
+                }),
+            }
+        }
+    }
+}
+
+fn no_counts(why: Refusal) -> Counted
+    ensures { λ r. ⌜ verdictRefusal (r .verdict) ≡ some (tabled why) ⌝ }
+    ensures { λ r. ⌜ r .counts ≡ noCounts ⌝ }
+{
+    Counted {
+        verdict: Verdict::Refused(why),
+        counts: Counts {
+            states: 0,
+            initial: 0,
+            events: 0,
+            transitions: 0,
+            machines: 0,
+        },
+    }
+}
+
+fn all_counts(d: Declared, transitions: usize, machines: usize) -> Counted
+    ensures { λ r. ⌜ r ≡ record { verdict = Passed; counts = counts (d .states) (d .events) transitions machines } ⌝ }
+{
+    Counted {
+        verdict: Verdict::Passed,
+        counts: Counts {
+            states: d.states,
+            initial: 0,
+            events: d.events,
+            transitions,
+            machines,
+        },
+    }
+}
+
+// The answer, once the first two lines are read.
+fn read_lines<'a>(
+    s: &[u8],
+    d: Declared,
+    len: &'a [usize; MAX_EVENTS],
+    high: &'a [u64; MAX_EVENTS],
+    low: &'a [u64; MAX_EVENTS],
+    source: &mut [u8; MAX_TRANSITIONS],
+    event: &mut [u8; MAX_TRANSITIONS],
+    target: &mut [u8; MAX_TRANSITIONS],
+    sizes: &mut [usize; MAX_MACHINES],
+    duplicate: &mut [usize; MAX_MACHINES],
+    place: &mut [u8; 4096],
+) -> Counted
+    requires { ⌜ (d .states ≤ 256) × (d .events ≤ 64) × Declares (d .events) (now «len») (now «high») (now «low») ⌝ }
+    requires { ⌜ (transitionRows (now source) (now event) (now target) ≡ noSteps) × (machineRows (now sizes) (now duplicate) (now place) ≡ noMachines) ⌝ }
+    ensures { λ r. ⌜ ReadsLines (now (s .entry)) d (now («len» .entry)) (now («high» .entry)) (now («low» .entry)) r (transitionRows (now (source .exit)) (now (event .exit)) (now (target .exit))) (machineRows (now (sizes .exit)) (now (duplicate .exit)) (now (place .exit))) ⌝ }
+{
+    let n = d.states;
+    match read_transitions(
+        s,
+        d.next,
+        n,
+        len,
+        high,
+        low,
+        d.events,
+        source,
+        event,
+        target,
+    ) {
+        Section::Refused(why) => no_counts(why),
+        Section::Read { count: k, next } => {
+            match read_machines(s, next, n, 3 + k, sizes, duplicate, place) {
+                Section::Refused(why) => no_counts(why),
+                Section::Read { count, next: _ } => all_counts(d, k, count),
+            }
+        }
+    }
+}
+
+// The text's counts and its rows, or its refusal by 1, 2 or 3.
+pub fn read_rows(
+    text: &[u8],
+    name_at: &mut [usize; MAX_EVENTS],
+    name_len: &mut [usize; MAX_EVENTS],
+    source: &mut [u8; MAX_TRANSITIONS],
+    event: &mut [u8; MAX_TRANSITIONS],
+    target: &mut [u8; MAX_TRANSITIONS],
+    sizes: &mut [usize; MAX_MACHINES],
+    duplicate: &mut [usize; MAX_MACHINES],
+    place: &mut [u8; 4096],
+) -> Counted
+    requires { ⌜ FreshRows (now «name_at») (now «name_len») (now source) (now event) (now target) (now sizes) (now duplicate) (now place) ⌝ }
+    ensures { λ r. ⌜ verdictRefusal (r .verdict) ≡ refusalOf (Text.read (now (text .entry))) ⌝ }
+    ensures { λ r. ⌜ ReadsRows (now (text .entry)) (r .counts) (now («name_at» .exit)) (now («name_len» .exit)) (now (source .exit)) (now (event .exit)) (now (target .exit)) (now (sizes .exit)) (now (duplicate .exit)) (now (place .exit)) ⌝ }
+{
+    let mut high = [0u64; MAX_EVENTS];
+    let mut low = [0u64; MAX_EVENTS];
+    match read_first_lines(text, name_at, name_len, &mut high, &mut low) {
+        FirstLines::Refused(why) => no_counts(why),
+        FirstLines::Read(d) => read_lines(
+            text,
+            d,
+            name_len,
+            &high,
+            &low,
+            source,
+            event,
+            target,
+            sizes,
+            duplicate,
+            place,
+        ),
+    }
+}
+
+// The answer with the rows in it.
+fn with_rows(
+    r: Counted,
+    name_at: [usize; MAX_EVENTS],
+    name_len: [usize; MAX_EVENTS],
     source: [u8; MAX_TRANSITIONS],
     event: [u8; MAX_TRANSITIONS],
     target: [u8; MAX_TRANSITIONS],
+    sizes: [usize; MAX_MACHINES],
+    duplicate: [usize; MAX_MACHINES],
+    place: [u8; 4096],
 ) -> Reading
-    requires { ⌜ (n ≤ 256) × (k ≤ 1024) ⌝ }
-    ensures { λ r. ⌜ ReadsLast (now (s .entry)) at n names k (transitionRows source event target) r ⌝ }
+    ensures { λ x. ⌜ Holds (r .verdict) (tablesIn (r .counts) «name_at» «name_len» source event target sizes duplicate place) x ⌝ }
 {
-    let mut sizes = [0usize; MAX_MACHINES];
-    let mut duplicate = [NO_STATE; MAX_MACHINES];
-    let mut place = [UNPLACED; 4096];
-    match read_machines(s, at, n, 3 + k, &mut sizes, &mut duplicate, &mut place) {
-        Section::Refused(why) => refused(why),
-        Section::Read { count, next: _ } => {
-            let name_at = names.spot;
-            let name_len = names.len;
-            passed(Tables {
-                states: n,
-                initial: 0,
-                events: names.count,
-                name_at,
-                name_len,
-                transitions: k,
-                source,
-                event,
-                target,
-                machines: count,
-                sizes,
-                duplicate,
-                place,
-            })
-        }
+    let verdict = r.verdict;
+    if let Verdict::Refused(why) = verdict {
+        return refused(why);
     }
-}
-
-// The answer, once the events line is read.
-fn with_transitions(s: &[u8], n: usize, names: EventsLine) -> Reading
-    requires { ⌜ (n ≤ 256) × (names .count ≤ 64) ⌝ }
-    ensures { λ r. ⌜ ReadsLines (now (s .entry)) n names r ⌝ }
-{
-    let mut source = [0u8; MAX_TRANSITIONS];
-    let mut event = [0u8; MAX_TRANSITIONS];
-    let mut target = [0u8; MAX_TRANSITIONS];
-    let at = names.next;
-    match read_transitions(s, at, n, names, &mut source, &mut event, &mut target) {
-        Section::Refused(why) => refused(why),
-        Section::Read { count, next } => {
-            with_machines(s, next, n, names, count, source, event, target)
-        }
+    Reading {
+        verdict: Verdict::Passed,
+        tables: Tables {
+            states: r.counts.states,
+            initial: r.counts.initial,
+            events: r.counts.events,
+            name_at,
+            name_len,
+            transitions: r.counts.transitions,
+            source,
+            event,
+            target,
+            machines: r.counts.machines,
+            sizes,
+            duplicate,
+            place,
+        },
     }
 }
 
@@ -345,29 +621,34 @@ pub fn read(text: &[u8]) -> Reading
     ensures { λ r. ⌜ r .tables ≡ tablesOf (Text.read (now (text .entry))) ⌝ }
     ensures { λ r. ⌜ ((v : Text.Input) → Text.read (now (text .entry)) ≡ passed v → Told (now (text .entry)) v (r .tables)) ⌝ }
 {
-    if MAX_TEXT < text.len() {
-        return refused(Refusal::LimitExceeded { line: 0 });
-    }
-    let Word::Found { value: n, next } = read_states(text, 0) else {
-        return refused(Refusal::Malformed { line: 1 });
-    };
-    if n < 1 {
-        return refused(Refusal::LimitExceeded { line: 1 });
-    }
-    if MAX_STATES < n {
-        return refused(Refusal::LimitExceeded { line: 1 });
-    }
-    let names = read_events(text, next);
-    let formed = names.formed;
-    let count = names.count;
-    if !formed {
-        return refused(Refusal::Malformed { line: 2 });
-    }
-    if MAX_EVENTS < count {
-        return refused(Refusal::LimitExceeded { line: 2 });
-    }
-    if !distinct_names(&names.len, &names.high, &names.low, count) {
-        return refused(Refusal::Undeclared { line: 2 });
-    }
-    with_transitions(text, n, names)
+    let mut name_at = [0usize; MAX_EVENTS];
+    let mut name_len = [0usize; MAX_EVENTS];
+    let mut source = [0u8; MAX_TRANSITIONS];
+    let mut event = [0u8; MAX_TRANSITIONS];
+    let mut target = [0u8; MAX_TRANSITIONS];
+    let mut sizes = [0usize; MAX_MACHINES];
+    let mut duplicate = [NO_STATE; MAX_MACHINES];
+    let mut place = [UNPLACED; 4096];
+    let r = read_rows(
+        text,
+        &mut name_at,
+        &mut name_len,
+        &mut source,
+        &mut event,
+        &mut target,
+        &mut sizes,
+        &mut duplicate,
+        &mut place,
+    );
+    with_rows(
+        r,
+        name_at,
+        name_len,
+        source,
+        event,
+        target,
+        sizes,
+        duplicate,
+        place,
+    )
 }

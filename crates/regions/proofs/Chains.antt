@@ -14,7 +14,7 @@ use Rattle.reader.specs.declared.Tables.{Tables}
 use Rattle.reader.specs.Told.{entry, systemOf}
 use Rattle.reader.specs.Bounded.{Bounded}
 use Rattle.reader.proofs.Fronts.{front-member}
-use Rattle.regions.specs.Indexed.{nextIn, nextOf, Indexed, Chained}
+use Rattle.regions.specs.Indexed.{nextIn, nextOf, Firsts, Indexed, Chained}
 
 -- r is the first position from k on with the event e, or the end
 pub record Next (event : List ℕ) (e k end r : ℕ) : Type 0 where
@@ -51,12 +51,11 @@ next-of event n e k l =
     subst (λ (z : ℕ). Next event e k z (nextOf event n e k)) q (next-in event e k (n - k))
 
 -- the first of an event, and after each transition the next of its event
-module _ {event first next : List ℕ} {n : ℕ} (i : Indexed event n first next) where
-  pub first-next : (e : ℕ) → e < 64 → Next event e 0 n (entry first e)
-  first-next e l = rw (i .starts e l) (next-of event n e 0 (omega arith))
+pub first-next : {event first : List ℕ} {n : ℕ} → Firsts event n first → (e : ℕ) → e < 64 → Next event e 0 n (entry first e)
+first-next {event} {n = n} i e l = rw (i .starts e l) (next-of event n e 0 (omega arith))
 
-  pub after-next : (k : ℕ) → k < n → Next event (entry event k) (suc k) n (entry next k)
-  after-next k l = rw (i .follows k l) (next-of event n (entry event k) (suc k) l)
+pub after-next : {event first next : List ℕ} {n : ℕ} → Indexed event n first next → (k : ℕ) → k < n → Next event (entry event k) (suc k) n (entry next k)
+after-next {event} {n = n} i k l = rw (i .follows k l) (next-of event n (entry event k) (suc k) l)
 
 -- a transition of the event
 used : (p : Tables) → unusedEvent (systemOf p) ≡ none → (e : ℕ) → e < p .events → (k : ℕ) × (k < p .transitions) × (entry (p .event) k ≡ e)
@@ -66,14 +65,15 @@ used p u e h =
     let (k, l, q) = front-member _ _ _ _ t m in
     (k, l, sym (ap (λ (v : Transition). v .event) q) ∙ eqb→eq (t .event) e s)
 
+pub first-of : (p : Tables) → Bounded p → unusedEvent (systemOf p) ≡ none → (first : List ℕ) → Firsts (p .event) (p .transitions) first
+    → (e : ℕ) → e < p .events → entry first e < p .transitions
+first-of p b u first i e h = let (k, l, q) = used p u e h in at k l q (order k (entry first e))
+  where
+    at : (k : ℕ) → k < p .transitions → entry (p .event) k ≡ e → (k < entry first e) ⊎ (entry first e ≤ k) → entry first e < p .transitions
+    at k l q (inl o) = absurd (first-next i e (omega (arith, b .events)) .free k (omega arith) o q)
+    at k l q (inr o) = omega arith
+
 pub chained : (p : Tables) → Bounded p → unusedEvent (systemOf p) ≡ none → (first next : List ℕ) → Indexed (p .event) (p .transitions) first next
     → Chained (p .transitions) (p .events) first next
 chained p b u first next i =
-    record { first-size = i .first-size; next-size = i .next-size; begins = begin; rises = λ k h. after-next i k h .least }
-  where
-    begin : (e : ℕ) → e < p .events → entry first e < p .transitions
-    begin e h = let (k, l, q) = used p u e h in at k l q (order k (entry first e))
-      where
-        at : (k : ℕ) → k < p .transitions → entry (p .event) k ≡ e → (k < entry first e) ⊎ (entry first e ≤ k) → entry first e < p .transitions
-        at k l q (inl o) = absurd (first-next i e (omega (arith, b .events)) .free k (omega arith) o q)
-        at k l q (inr o) = omega arith
+    record { first-size = i .firsts .size; next-size = i .next-size; begins = first-of p b u first (i .firsts); rises = λ k h. after-next i k h .least }

@@ -20,21 +20,15 @@ use Rattle.model.specs.Machine as M
 use Rattle.model.proofs.Laws.{below-suc}
 use Rattle.model.proofs.Positions.{at-below, below-at, at-value}
 use Rattle.reader.specs.declared.Tables.{Tables}
-use Rattle.reader.specs.declared.Verdict.{Verdict}
 use Rattle.reader.specs.declared.Verdict.the-variants.{Refused, Passed}
 use Rattle.reader.specs.Tables.{verdictRefusal}
 use Rattle.reader.specs.Told.{entry, below, systemOf, MachineTold, MachinesTold}
 use Rattle.reader.specs.Bounded.{Bounded}
 use Rattle.reader.proofs.Searches.{below-in, below-out}
-use Rattle.regions.specs.Moves.{moveAt, MoveRows, MovesTold}
+use Rattle.regions.specs.Moves.{moveAt, MoveRows}
 use Rattle.regions.specs.Crossings.{Scannable, Scanned, EarlierKept}
+use Rattle.regions.specs.Regions.{Answer}
 use Rattle.regions.proofs.Marks.{twice-found, twice-none, unplaced-search, scannable}
-
--- the contract
-abbrev pub Answer : Tables → Verdict → List ℕ → List ℕ → Type 0
-Answer p r pre post =
-    ((ms : Decomposition) → MachinesTold (systemOf p) p ms → verdictRefusal r ≡ machinesRefusal (systemOf p) 0 ms)
-    × ((ms : Decomposition) → MachinesTold (systemOf p) p ms → verdictRefusal r ≡ none → MovesTold (systemOf p) ms pre post)
 
 pub record Checking (p : Tables) (k : ℕ) (pre post : List ℕ) : Type 0 where
   pub most : k ≤ p .machines

@@ -59,7 +59,7 @@ module _ (ts : TransitionSystem) (mach : Machine) (m : ℕ) (source event target
   -- the move that the code writes
   pub rows-move :
       (pre post : List ℕ) (e f : ℕ) → f < n → Level ts mach e (transitionAt source event target f)
-      → entry pre (m * 64 + e) ≡ preMark (crossingAt source target place m f) → entry post (m * 64 + e) ≡ crossingAt source target place m f .post
+      → entry pre (e * 16 + m) ≡ preMark (crossingAt source target place m f) → entry post (e * 16 + m) ≡ crossingAt source target place m f .post
       → moveAt pre post m e ≡ move ts mach e
   unfolding moveAt preMark
   rows-move pre post e f l v p q =

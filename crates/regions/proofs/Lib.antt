@@ -12,3 +12,7 @@ pub mod Crossed
 -- the scan for 10, and the loop over the machines
 pub mod Scan
 pub mod Checking
+-- all machines at once: their lanes, the moves of first transitions, and that all pass
+pub mod Lanes
+pub mod Putting
+pub mod AtOnce

@@ -37,7 +37,7 @@ module _ {source target place first next : List ℕ} {n m e : ℕ} {one : Crossi
   }
     where
       start : (event : List ℕ) → Indexed event n first next → Next event e 0 n k
-      start event x = rw q (first-next x e l)
+      start event x = rw q (first-next (x .firsts) e l)
 
   pub walk-next :
       {k : ℕ} (k2 : ℕ) (other : Crossing) (r : Bool) → k < n → k2 ≡ entry next k → other ≡ crossingAt source target place m k → r ≡ agreeing one other → not r ≡ false
@@ -60,17 +60,17 @@ pub record Sofar (source target place first next : List ℕ) (n m : ℕ) (pre₀
   pub kept : EarlierKept m pre₀ post₀ pre post
   pub alike : (d : ℕ) → d < e → (event : List ℕ) → Indexed event n first next → (j : ℕ) → j < n → entry event j ≡ d
       → T (agreeing (crossingAt source target place m (entry first d)) (crossingAt source target place m j))
-  pub pres : (d : ℕ) → d < e → entry pre (m * 64 + d) ≡ preMark (crossingAt source target place m (entry first d))
-  pub posts : (d : ℕ) → d < e → entry post (m * 64 + d) ≡ crossingAt source target place m (entry first d) .post
+  pub pres : (d : ℕ) → d < e → entry pre (d * 16 + m) ≡ preMark (crossingAt source target place m (entry first d))
+  pub posts : (d : ℕ) → d < e → entry post (d * 16 + m) ≡ crossingAt source target place m (entry first d) .post
 
 -- an entry of machine m changes nothing before it
 kept-put :
-    (m : ℕ) (pre₀ post₀ pre post : List ℕ) (e x y : ℕ) → EarlierKept m pre₀ post₀ pre post → EarlierKept m pre₀ post₀ (set pre (m * 64 + e) x) (set post (m * 64 + e) y)
+    (m : ℕ) (pre₀ post₀ pre post : List ℕ) (e x y : ℕ) → m < 16 → EarlierKept m pre₀ post₀ pre post → EarlierKept m pre₀ post₀ (set pre (e * 16 + m) x) (set post (e * 16 + m) y)
 unfolding moveAt
-kept-put m pre₀ post₀ pre post e x y k = record {
-  rows = record { pre-size = length-set pre (m * 64 + e) x ∙ k .rows .pre-size; post-size = length-set post (m * 64 + e) y ∙ k .rows .post-size };
-  same = λ j d l b. let q : j * 64 + d ≡ m * 64 + e → ⊥ = λ r. omega arith in
-      rw (getD-set-other pre (m * 64 + e) (j * 64 + d) x 0 q, getD-set-other post (m * 64 + e) (j * 64 + d) y 0 q) (k .same j d l b);
+kept-put m pre₀ post₀ pre post e x y lm k = record {
+  rows = record { pre-size = length-set pre (e * 16 + m) x ∙ k .rows .pre-size; post-size = length-set post (e * 16 + m) y ∙ k .rows .post-size };
+  same = λ j d l b. let q : d * 16 + j ≡ e * 16 + m → ⊥ = λ r. omega arith in
+      rw (getD-set-other pre (e * 16 + m) (d * 16 + j) x 0 q, getD-set-other post (e * 16 + m) (d * 16 + j) y 0 q) (k .same j d l b);
 }
 
 module _ {source target place first next : List ℕ} {n m : ℕ} where
@@ -80,41 +80,56 @@ module _ {source target place first next : List ℕ} {n m : ℕ} where
   pub sofar-next :
       {pre₀ post₀ pre post : List ℕ} {e : ℕ} (one : Crossing) (k x : ℕ) → one ≡ crossingAt source target place m (entry first e) → x ≡ preMark one → m < 16 → e < 64 → n ≤ k
       → Walk source target place first next n m e one k → Sofar source target place first next n m pre₀ post₀ pre post e
-      → Sofar source target place first next n m pre₀ post₀ (set pre (m * 64 + e) x) (set post (m * 64 + e) (one .post)) (e + 1)
+      → Sofar source target place first next n m pre₀ post₀ (set pre (e * 16 + m) x) (set post (e * 16 + m) (one .post)) (e + 1)
   sofar-next {pre₀} {post₀} {pre} {post} {e} one k x q p lm le l w s = record {
-    kept = kept-put m pre₀ post₀ pre post e x (one .post) (s .kept);
+    kept = kept-put m pre₀ post₀ pre post e x (one .post) lm (s .kept);
     alike = below-more _ e (s .alike) (λ event i j b r. rw q at (w .passed event i j (omega arith) b r));
-    pres = below-more _ e (λ d b. getD-set-other pre (m * 64 + e) (m * 64 + d) x 0 (λ r. omega arith) ∙ s .pres d b)
-        (getD-set-same pre (m * 64 + e) x 0 (omega (arith, s .kept .rows .pre-size)) ∙ p ∙ ap preMark q);
-    posts = below-more _ e (λ d b. getD-set-other post (m * 64 + e) (m * 64 + d) (one .post) 0 (λ r. omega arith) ∙ s .posts d b)
-        (getD-set-same post (m * 64 + e) (one .post) 0 (omega (arith, s .kept .rows .post-size)) ∙ ap (λ (z : Crossing). z .post) q);
+    pres = below-more _ e (λ d b. getD-set-other pre (e * 16 + m) (d * 16 + m) x 0 (λ r. omega arith) ∙ s .pres d b)
+        (getD-set-same pre (e * 16 + m) x 0 (omega (arith, s .kept .rows .pre-size)) ∙ p ∙ ap preMark q);
+    posts = below-more _ e (λ d b. getD-set-other post (e * 16 + m) (d * 16 + m) (one .post) 0 (λ r. omega arith) ∙ s .posts d b)
+        (getD-set-same post (e * 16 + m) (one .post) 0 (omega (arith, s .kept .rows .post-size)) ∙ ap (λ (z : Crossing). z .post) q);
+  }
+
+-- the transitions of event d lead through machine m like f, which is one of them, and the rows have f's move
+pub record Settled (source event target place : List ℕ) (n m : ℕ) (pre post : List ℕ) (d f : ℕ) : Type 0 where
+  pub low : f < n
+  pub label : entry event f ≡ d
+  pub alike : (j : ℕ) → j < n → entry event j ≡ d → T (agreeing (crossingAt source target place m f) (crossingAt source target place m j))
+  pub pre-mark : entry pre (d * 16 + m) ≡ preMark (crossingAt source target place m f)
+  pub post-place : entry post (d * 16 + m) ≡ crossingAt source target place m f .post
+
+-- the events before e are settled
+module _ {source event target place : List ℕ} {n m : ℕ} {pre post : List ℕ} {e : ℕ} (first : List ℕ) (ts : TransitionSystem) (mach : Machine) (s : Scannable ts mach m source event target place n)
+    (most : e ≤ ts .events) (settled : (d : ℕ) → d < e → Settled source event target place n m pre post d (entry first d)) where
+  level : (d : ℕ) → d < e → Level ts mach d (transitionAt source event target (entry first d))
+  level d l = let v = settled d l in rows-level ts mach m source event target place n s d (entry first d) (v .low) (v .label) (v .alike)
+
+  even : (d : ℕ) → d < e → T (not (not (every (uniform ts d) (mach .places))))
+  even d l = not-T (not (every (uniform ts d) (mach .places))) (λ x. contra (every (uniform ts d) (mach .places)) x (level-uniform ts mach (s .within) (s .placed) d (transitionAt source event target (entry first d)) (level d l)))
+
+  pub answered : (e < ts .events → T (not (every (uniform ts e) (mach .places)))) → Scanned ts mach m pre post e
+  unfolding nonuniformEvent
+  answered here = record {
+    most = most;
+    event = searched (λ d. not (every (uniform ts d) (mach .places))) (ts .events) e most even here;
+    moves = λ d l. let v = settled d l in rows-move ts mach m source event target place n s pre post d (entry first d) (v .low) (level d l) (v .pre-mark) (v .post-place);
   }
 
 -- at the first event that is not level, or past the last
 module _ {source target place first next : List ℕ} {n m events : ℕ} {pre₀ post₀ pre post : List ℕ} {e : ℕ} (le : events ≤ 64) (ch : Chained n events first next) (so : Sofar source target place first next n m pre₀ post₀ pre post e) (ed : e ≤ events)
     (event : List ℕ) (ts : TransitionSystem) (mach : Machine) (i : Indexed event n first next) (s : Scannable ts mach m source event target place n) (q : events ≡ ts .events) where
   begins : (d : ℕ) → d < events → entry event (entry first d) ≡ d
-  begins d l = first-next i d (omega arith) .stands (ch .begins d l)
+  begins d l = first-next (i .firsts) d (omega arith) .stands (ch .begins d l)
 
-  level : (d : ℕ) → d < e → Level ts mach d (transitionAt source event target (entry first d))
-  level d l = rows-level ts mach m source event target place n s d (entry first d) (ch .begins d (omega arith)) (begins d (omega arith)) (so .alike d l event i)
-
-  even : (d : ℕ) → d < e → T (not (not (every (uniform ts d) (mach .places))))
-  even d l = not-T (not (every (uniform ts d) (mach .places))) (λ x. contra (every (uniform ts d) (mach .places)) x (level-uniform ts mach (s .within) (s .placed) d (transitionAt source event target (entry first d)) (level d l)))
-
-  answered : (e < ts .events → T (not (every (uniform ts e) (mach .places)))) → Scanned ts mach m pre post e
-  unfolding nonuniformEvent
-  answered here = record {
-    most = omega arith;
-    event = searched (λ d. not (every (uniform ts d) (mach .places))) (ts .events) e (omega arith) even here;
-    moves = λ d l. rows-move ts mach m source event target place n s pre post d (entry first d) (ch .begins d (omega arith)) (level d l) (so .pres d l) (so .posts d l);
-  }
+  settled : (d : ℕ) → d < e → Settled source event target place n m pre post d (entry first d)
+  settled d l = record { low = ch .begins d (omega arith); label = begins d (omega arith); alike = so .alike d l event i; pre-mark = so .pres d l; post-place = so .posts d l }
 
   pub scanned-all : events ≤ e → Scanned ts mach m pre post e
-  scanned-all l = answered (λ b. absurd (omega arith))
+  scanned-all l = answered first ts mach s (omega arith) settled (λ b. absurd (omega arith))
 
   pub scanned-uneven :
       (one other : Crossing) (r : Bool) (k : ℕ) → e < events → k < n → one ≡ crossingAt source target place m (entry first e) → other ≡ crossingAt source target place m k
       → r ≡ agreeing one other → not r ≡ true → Walk source target place first next n m e one k → Scanned ts mach m pre post e
   scanned-uneven one other r k l lk p oq rq f w =
-      answered (λ _. rows-uneven ts mach m source event target place n s e (entry first e) k (ch .begins e l) lk (begins e l) (w .stands event i lk) (rw (← p, ← oq, ← rq, f) tt))
+      answered first ts mach s (omega arith) settled
+      (λ _. rows-uneven ts mach m source event target place n s e (entry first e) k (ch .begins e l) lk (begins e l) (w .stands event i lk) (rw (← p, ← oq, ← rq, f) tt))

@@ -1,4 +1,4 @@
--- How transitions lead through a machine, and what the scan for 10 answers.
+-- How transitions lead through a machine, what the scan for 10 answers, and the moves of events whose transitions all lead like the first.
 use Prim.Native.Nat.{ℕ, _+_, _*_, _<_, _≤_}
 use mathlib.Core.Path.{_≡_}
 use mathlib.Core.Bool.{Bool, cond, _&&_}
@@ -50,3 +50,22 @@ pub record Scanned (ts : TransitionSystem) (m : Machine) (k : ℕ) (pre post : L
 pub record EarlierKept (k : ℕ) (pre post pre2 post2 : List ℕ) : Type 0 where
   pub rows : MoveRows pre2 post2
   pub same : (j e : ℕ) → j < k → e < 64 → moveAt pre2 post2 j e ≡ moveAt pre post j e
+
+-- each event has a first transition
+pub record Leading (first : List ℕ) (events : ℕ) : Type 0 where
+  pub size : length first ≡ 64
+  pub low : (e : ℕ) → e < events → entry first e < 1024
+
+-- the moves on machine m, those of the first transitions; the moves on the machines before m are as they were
+pub record PutMoves (source target place first : List ℕ) (events m : ℕ) (pre post pre2 post2 : List ℕ) : Type 0 where
+  pub rows : MoveRows pre2 post2
+  pub pres : (e : ℕ) → e < events → entry pre2 (e * 16 + m) ≡ preMark (crossingAt source target place m (entry first e))
+  pub posts : (e : ℕ) → e < events → entry post2 (e * 16 + m) ≡ crossingAt source target place m (entry first e) .post
+  pub pres-kept : (e j : ℕ) → j < m → entry pre2 (e * 16 + j) ≡ entry pre (e * 16 + j)
+  pub posts-kept : (e j : ℕ) → j < m → entry post2 (e * 16 + j) ≡ entry post (e * 16 + j)
+
+-- the moves on all machines
+pub record MovesPut (source target place first : List ℕ) (events machines : ℕ) (pre post : List ℕ) : Type 0 where
+  pub rows : MoveRows pre post
+  pub pres : (m : ℕ) → m < machines → (e : ℕ) → e < events → entry pre (e * 16 + m) ≡ preMark (crossingAt source target place m (entry first e))
+  pub posts : (m : ℕ) → m < machines → (e : ℕ) → e < events → entry post (e * 16 + m) ≡ crossingAt source target place m (entry first e) .post

@@ -1,4 +1,4 @@
--- The moves of the events on each machine, in two rows: at k * 64 + e the pre-place and the post-place of event e on machine k. No place has a number from 64 on;
+-- The moves of the events on each machine, in two rows: at e * 16 + k the pre-place and the post-place of event e on machine k. No place has a number from 64 on;
 -- such an entry says that the event is not on the machine.
 use Prim.Native.Nat.{ℕ, _+_, _*_, _<_}
 use mathlib.Core.Path.{_≡_}
@@ -14,7 +14,7 @@ use Rattle.reader.specs.Told.{entry}
 
 unfoldable pub moveAt : List ℕ → List ℕ → ℕ → ℕ → Option Move
 moveAt pre post k e =
-    cond (ltb (entry pre (k * 64 + e)) 64) (some (record { pre = entry pre (k * 64 + e); post = entry post (k * 64 + e) })) none
+    cond (ltb (entry pre (e * 16 + k)) 64) (some (record { pre = entry pre (e * 16 + k); post = entry post (e * 16 + k) })) none
 
 -- both rows have an entry for each event and machine
 pub record MoveRows (pre post : List ℕ) : Type 0 where

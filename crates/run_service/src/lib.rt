@@ -2,7 +2,11 @@
 ghost use mathlib.Core.Path.{_≡_};
 ghost use Rattle.model.specs.Services as Services;
 ghost use Rattle.product.specs.Answers.{runAnswer};
-use closure::PLACE_WORDS;
+use lines::NO_STATE;
+use lines::UNPLACED;
+use model::MAX_EVENTS;
+use model::MAX_MACHINES;
+use model::MAX_TRANSITIONS;
 use product::RunAnswer;
 use product::places_of;
 use product::refused;
@@ -17,18 +21,38 @@ use transition_system::EXCITATION_WORDS;
 pub fn run(text: &[u8], events: &[u8]) -> RunAnswer
     ensures { λ r. ⌜ runAnswer r ≡ Services.run (now (text .entry)) (now (events .entry)) ⌝ }
 {
+    let mut name_at = [0usize; MAX_EVENTS];
+    let mut name_len = [0usize; MAX_EVENTS];
+    let mut source = [0u8; MAX_TRANSITIONS];
+    let mut event = [0u8; MAX_TRANSITIONS];
+    let mut target = [0u8; MAX_TRANSITIONS];
+    let mut sizes = [0usize; MAX_MACHINES];
+    let mut duplicate = [NO_STATE; MAX_MACHINES];
+    let mut place = [UNPLACED; 4096];
     let mut pre = [NOT_ON; MOVES];
     let mut post = [0u8; MOVES];
     let mut excited = [0u64; EXCITATION_WORDS];
-    let mut sets = [0u64; PLACE_WORDS];
-    let reading = read_as_far_as_12(text, &mut pre, &mut post, &mut excited, &mut sets);
-    let verdict = reading.verdict;
+    let read = read_as_far_as_12(
+        text,
+        &mut name_at,
+        &mut name_len,
+        &mut source,
+        &mut event,
+        &mut target,
+        &mut sizes,
+        &mut duplicate,
+        &mut place,
+        &mut pre,
+        &mut post,
+        &mut excited,
+    );
+    let verdict = read.verdict;
     if let Verdict::Refused(why) = verdict {
         return refused(why);
     }
-    let tables = reading.tables;
-    let machines = tables.machines;
-    let declared = tables.events;
-    let start = places_of(&tables.place, tables.initial, machines);
+    let counts = read.counts;
+    let machines = counts.machines;
+    let declared = counts.events;
+    let start = places_of(&place, counts.initial, machines);
     run_events(&pre, &post, machines, declared, start, events)
 }

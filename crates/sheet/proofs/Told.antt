@@ -13,10 +13,14 @@ use Rattle.model.specs.Text.{Input, system, Limits}
 use Rattle.model.specs.Sheet.{movesBelow, sheetLine, sheetLines, sheet}
 use Rattle.model.proofs.Positions.{below-at, at-value}
 use Rattle.model.proofs.Sheets.{at-lines, lines-length}
+use Rattle.reader.specs.declared.Counts.{Counts}
 use Rattle.reader.specs.declared.Tables.{Tables}
+use Rattle.reader.specs.Tables.{tablesIn}
+use Rattle.reader.specs.Bounded.{Bounded}
 use Rattle.reader.specs.Told.{entry, nameOf, Told}
 use Rattle.reader.proofs.Telling.{told-place, told-events, told-initial}
 use Rattle.regions.specs.Moves.{moveAt, MovesTold}
+use Rattle.sheet.specs.Rows.{SheetBounds}
 use Rattle.sheet.specs.Written.{namesIn, rowNames, rowMoves, rowLine, rowLines, rowSheet}
 
 -- the moves of one machine
@@ -76,6 +80,23 @@ module _ (s : List ℕ) (v : Input) (p : Tables) (pre post : List ℕ) (told : T
   pub told-sheet : rowSheet s p pre post ≡ sheet v
   unfolding rowSheet sheet
   told-sheet = rw (all-lines, told-names s v p told, told .tells-machines .counted)
+
+-- of bounds on all rows those that a sheet needs
+pub sheet-bounds : (c : Counts) (ats lens sources events targets sizes duplicates places : List ℕ)
+    → Bounded (tablesIn c ats lens sources events targets sizes duplicates places) → length lens ≡ 64 → length sizes ≡ 16 → length places ≡ 4096
+    → SheetBounds c lens sizes places
+sheet-bounds c ats lens sources events targets sizes duplicates places b l z p =
+    record {
+      states = b .states;
+      initial = b .initial;
+      events = b .events;
+      names = b .names;
+      machines = b .machines;
+      place-counts = b .sizes;
+      lens-size = l;
+      sizes-size = z;
+      places-size = p;
+    }
 
 -- a lent buffer that is long enough begins with what is written, and goes on as it was
 pub lent : (out xs : List ℕ) → length xs ≤ length out → sets out 0 xs ≡ xs ++ drop (length xs) out

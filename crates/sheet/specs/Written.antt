@@ -13,6 +13,10 @@ unfoldable pub headBytes : ℕ → ℕ → ℕ → List ℕ
 headBytes k size start =
     bytes "(machine " ++ (digits k ++ (bytes " (places " ++ (digits size ++ (bytes ") (start " ++ (digits start ++ bytes ")")))))
 
+-- what stands behind the name of a move
+unfoldable pub placesBytes : ℕ → ℕ → List ℕ
+placesBytes pre post = bytes " " ++ (digits pre ++ (bytes " " ++ (digits post ++ bytes ")")))
+
 -- the first n names, by their places and lengths in the text
 unfoldable pub namesIn : List ℕ → List ℕ → List ℕ → ℕ → List Name
 namesIn s ats lens zero = []

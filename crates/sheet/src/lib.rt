@@ -1,27 +1,39 @@
 // The sheet: its length, and its bytes.
 ghost use mathlib.Core.Path.{_≡_};
-ghost use mathlib.Core.List.{List};
 ghost use Prim.Native.Nat.{ℕ, _+_, _<_, _≤_};
-ghost use lib.ListN.{length};
-ghost use lib.Seq.{sets};
+ghost use mathlib.Core.Bool.{_&&_};
+ghost use lib.Dec.{ltb};
+ghost use lib.ListN.{length, take, drop};
 ghost use Rattle.model.specs.Bytes.{digits};
 ghost use Rattle.model.specs.Sheet.{moveBytes};
 ghost use Rattle.reader.specs.Told.{entry};
-ghost use Rattle.reader.specs.Bounded.{Bounded, NamesInside};
+ghost use Rattle.reader.specs.Bounded.{NamesInside};
 ghost use Rattle.regions.specs.Moves.{MoveRows};
 ghost use Rattle.writers.specs.Written.{Writes};
-ghost use Rattle.sheet.specs.Written.{headBytes, namesIn, movesBytes, rowSheet};
-use model::MAX_EVENTS;
+ghost use Rattle.sheet.specs.Written.{headBytes, placesBytes, namesIn, movesBytes, rowSheet};
+ghost use Rattle.sheet.specs.Lengths.{eventLength, movesLength, headsLength};
+ghost use Rattle.sheet.specs.Within.{WritesWithin};
+ghost use Rattle.sheet.specs.Rows.{SheetBounds, SheetLength, SheetLeft, sheetRows};
+use model::MAX_MACHINES;
 use model::MAX_PLACES;
 use model::MAX_STATES;
-use reader::Tables;
+use reader::Counts;
 use reader::wide;
+use writers::figure_len;
 use writers::write_bytes;
 use writers::write_figure;
 
-// How many digits a number up to 999 has.
-fn figure_len(n: usize) -> usize
-    requires { ⌜ n ≤ 999 ⌝ }
+// ---- lengths
+
+// The bytes of the first line, of a machine's line and of a move that are the same in each.
+const FIRST_LINE: usize = 12;
+
+const MACHINE_LINE: usize = 30;
+
+const MOVE: usize = 10;
+
+// How many digits a place's number has.
+fn place_len(n: u8) -> u8
     ensures { λ r. ⌜ (r ≡ length (digits n)) × (r ≤ 3) ⌝ }
 {
     if n < 10 {
@@ -33,76 +45,163 @@ fn figure_len(n: usize) -> usize
     }
 }
 
-// ---- lengths
-
-// The bytes of the first line, of a machine's line and of a move that are the same in each.
-const FIRST_LINE: usize = 12;
-
-const MACHINE_LINE: usize = 30;
-
-const MOVE: usize = 10;
-
-fn move_len(name: usize, pre: u8, post: u8) -> usize
-    requires { ⌜ name ≤ 16 ⌝ }
-    ensures { λ r. ⌜ (r ≡ 10 + name + length (digits pre) + length (digits post)) × (r ≤ 32) ⌝ }
+// Machine m is one of the machines, and an event with this pre-place is on it.
+fn on(pre: u8, m: u8, machines: u8) -> bool
+    ensures { λ r. ⌜ r ≡ (ltb m machines && ltb pre 64) ⌝ }
 {
-    MOVE + name + figure_len(wide(pre)) + figure_len(wide(post))
+    if m < machines {
+        wide(pre) < MAX_PLACES
+    } else {
+        false
+    }
 }
 
-// The moves of the events on machine m.
-fn moves_len(lens: &[usize], pre: &[u8], post: &[u8], m: usize, events: usize) -> usize
-    requires { ⌜ (m < 16) × (events ≤ 64) × (length (now lens) ≡ 64) × MoveRows (now pre) (now post) ⌝ }
-    requires { ⌜ ((e : ℕ) → e < events → entry (now lens) e ≤ 16) ⌝ }
-    ensures { λ r. ⌜ r ≤ 2048 ⌝ }
-    ensures { λ r. ⌜ ((s ats : List ℕ) → NamesInside s ats (now (lens .entry)) events → r ≡ length (movesBytes (namesIn s ats (now (lens .entry)) events) (now (pre .entry)) (now (post .entry)) m events)) ⌝ }
+// The moves of event e on the machines. The rows have an entry for each machine that there could be: the loop goes over all of them, and has its counter as a
+// byte too, so that 16 machines are 16 bytes.
+fn event_len(name: usize, pre: &[u8], post: &[u8], e: usize, machines: u8) -> usize
+    requires { ⌜ (name ≤ 16) × (e < 64) × (machines ≤ 16) × MoveRows (now pre) (now post) ⌝ }
+    ensures { λ r. ⌜ (r ≡ eventLength name (now (pre .entry)) (now (post .entry)) e machines) × (r ≤ 512) ⌝ }
 {
-    let from = m * MAX_EVENTS;
+    let from = e * MAX_MACHINES;
+    let mut moves: u8 = 0;
+    let mut figures: u8 = 0;
+    let mut lane: u8 = 0;
+    let mut m = 0;
+    while m < MAX_MACHINES {
+        let q = pre[from + m];
+        let both = place_len(q) + place_len(post[from + m]);
+        if on(q, lane, machines) {
+            moves += 1;
+            figures += both;
+        }
+        lane += 1;
+        m += 1;
+    }
+    wide(moves) * (MOVE + name) + wide(figures)
+}
+
+fn moves_len(lens: &[usize], pre: &[u8], post: &[u8], machines: u8, events: usize) -> usize
+    requires { ⌜ (machines ≤ 16) × (events ≤ 64) × (length (now lens) ≡ 64) × MoveRows (now pre) (now post) ⌝ }
+    requires { ⌜ ((e : ℕ) → e < events → entry (now lens) e ≤ 16) ⌝ }
+    ensures { λ r. ⌜ (r ≡ movesLength (now (lens .entry)) (now (pre .entry)) (now (post .entry)) machines events) × (r ≤ 32768) ⌝ }
+{
     let mut total = 0;
     let mut e = 0;
     while e < events {
-        let q = pre[from + e];
-        if wide(q) < MAX_PLACES {
-            total += move_len(lens[e], q, post[from + e]);
-        }
+        total += event_len(lens[e], pre, post, e, machines);
         e += 1;
     }
     total
 }
 
-// The whole sheet: its first line, and a line for each machine.
-pub fn sheet_len(p: Tables, pre: &[u8], post: &[u8]) -> usize
-    requires { ⌜ Bounded p × MoveRows (now pre) (now post) ⌝ }
-    ensures { λ r. ⌜ ((s : List ℕ) → NamesInside s (p .«name_at») (p .«name_len») (p .events) → r ≡ length (rowSheet s p (now (pre .entry)) (now (post .entry)))) ⌝ }
+// What the lines of the first n machines have beside moves.
+fn heads_len(sizes: &[usize], place: &[u8], initial: usize, n: usize) -> usize
+    requires { ⌜ (initial < 256) × (n ≤ 16) × (length (now sizes) ≡ 16) × (length (now place) ≡ 4096) ⌝ }
+    requires { ⌜ ((k : ℕ) → k < n → entry (now sizes) k ≤ 64) ⌝ }
+    ensures { λ r. ⌜ (r ≡ headsLength (now (sizes .entry)) (now (place .entry)) initial n) × (r ≤ 1024) ⌝ }
 {
-    let count = p.machines;
-    let events = p.events;
-    let initial = p.initial;
-    let mut total = FIRST_LINE + figure_len(count);
+    let mut total = 0;
     let mut m = 0;
-    while m < count {
-        let size = figure_len(p.sizes[m]);
-        let start = figure_len(wide(p.place[m * MAX_STATES + initial]));
-        let moves = moves_len(&p.name_len, pre, post, m, events);
-        total += MACHINE_LINE + figure_len(m) + size + start + moves;
+    while m < n {
+        let size = figure_len(sizes[m]);
+        let start = figure_len(wide(place[m * MAX_STATES + initial]));
+        total += MACHINE_LINE + figure_len(m) + size + start;
         m += 1;
     }
     total
 }
 
+// The whole sheet: its first line, and a line for each machine.
+pub fn sheet_len<'a>(
+    c: Counts,
+    lens: &'a [usize],
+    sizes: &'a [usize],
+    place: &[u8],
+    pre: &[u8],
+    post: &[u8],
+) -> usize
+    requires { ⌜ SheetBounds c (now lens) (now sizes) (now place) × MoveRows (now pre) (now post) ⌝ }
+    ensures { λ r. ⌜ SheetLength c (now (lens .entry)) (now (sizes .entry)) (now (place .entry)) (now (pre .entry)) (now (post .entry)) r ⌝ }
+{
+    let machines = c.machines;
+    let events = c.events;
+    let initial = c.initial;
+    let first = FIRST_LINE + figure_len(machines);
+    let heads = heads_len(sizes, place, initial, machines);
+    first + heads + moves_len(lens, pre, post, machines as u8, events)
+}
+
 // ---- bytes
 
-// A move. The answer is the position after it, here and below.
-fn write_move(name: &[u8], pre: u8, post: u8, out: &mut [u8], at: usize) -> usize
-    requires { ⌜ at + length (moveBytes (now name) pre post) ≤ length (now out) ⌝ }
-    ensures { λ r. ⌜ Writes (moveBytes (now (name .entry)) pre post) at (now (out .entry)) r (now (out .exit)) ⌝ }
+const LONGEST_NAME: usize = 16;
+
+// A word by way of a copy: its bytes are all read before the first is written.
+fn write_copied(word: &[u8], out: &mut [u8], at: usize) -> usize
+    requires { ⌜ (length (now word) ≡ 16) × (at + 16 ≤ length (now out)) ⌝ }
+    ensures { λ r. ⌜ Writes (now (word .entry)) at (now (out .entry)) r (now (out .exit)) ⌝ }
 {
-    let a = write_bytes(b" (move ", out, at);
-    let b = write_bytes(name, out, a);
+    let mut copy = [0u8; LONGEST_NAME];
+    write_bytes(word, &mut copy, 0);
+    write_bytes(&copy, out, at)
+}
+
+fn least(a: usize, b: usize) -> usize
+    ensures { λ r. ⌜ (r ≤ a) × (r ≤ b) ⌝ }
+{
+    if a < b { a } else { b }
+}
+
+// The name that stands at a place of the text, in a sheet of a known size. Where text and sheet go on for it, as many bytes are written as the longest name has:
+// those behind the name are overwritten by what follows it. The answer is the position after the name, here and below.
+fn write_name(
+    text: &[u8],
+    start: usize,
+    len: usize,
+    out: &mut [u8],
+    at: usize,
+    size: usize,
+) -> usize
+    requires { ⌜ (len ≤ 16) × (start + len ≤ length (now text)) × (at + len ≤ size) × (size ≤ length (now out)) ⌝ }
+    ensures { λ r. ⌜ WritesWithin (take len (drop start (now (text .entry)))) at size (now (out .entry)) r (now (out .exit)) ⌝ }
+{
+    if least(text.len() - start, size - at) < LONGEST_NAME {
+        let end = start + len;
+        return write_bytes(&text[start..end], out, at);
+    }
+    let end = start + LONGEST_NAME;
+    write_copied(&text[start..end], out, at);
+    at + len
+}
+
+// What stands behind the name of a move.
+fn write_places(pre: u8, post: u8, out: &mut [u8], at: usize) -> usize
+    requires { ⌜ at + length (placesBytes pre post) ≤ length (now out) ⌝ }
+    ensures { λ r. ⌜ Writes (placesBytes pre post) at (now (out .entry)) r (now (out .exit)) ⌝ }
+{
+    let a = write_bytes(b" ", out, at);
+    let b = write_figure(wide(pre), out, a);
     let c = write_bytes(b" ", out, b);
-    let d = write_figure(wide(pre), out, c);
-    let e = write_bytes(b" ", out, d);
-    let f = write_figure(wide(post), out, e);
-    write_bytes(b")", out, f)
+    let d = write_figure(wide(post), out, c);
+    write_bytes(b")", out, d)
+}
+
+fn write_move(
+    text: &[u8],
+    start: usize,
+    len: usize,
+    pre: u8,
+    post: u8,
+    out: &mut [u8],
+    at: usize,
+    size: usize,
+) -> usize
+    requires { ⌜ (len ≤ 16) × (start + len ≤ length (now text)) × (size ≤ length (now out)) ⌝ }
+    requires { ⌜ at + length (moveBytes (take len (drop start (now text))) pre post) ≤ size ⌝ }
+    ensures { λ r. ⌜ WritesWithin (moveBytes (take len (drop start (now (text .entry)))) pre post) at size (now (out .entry)) r (now (out .exit)) ⌝ }
+{
+    let name = write_bytes(b" (move ", out, at);
+    let places = write_name(text, start, len, out, name, size);
+    write_places(pre, post, out, places)
 }
 
 // The moves of the events on machine m.
@@ -116,21 +215,20 @@ fn write_moves<'a>(
     events: usize,
     out: &mut [u8],
     at: usize,
+    size: usize,
 ) -> usize
     requires { ⌜ (m < 16) × (events ≤ 64) × (length (now ats) ≡ 64) × (length (now lens) ≡ 64) × MoveRows (now pre) (now post) ⌝ }
-    requires { ⌜ NamesInside (now text) (now ats) (now lens) events ⌝ }
-    requires { ⌜ at + length (movesBytes (namesIn (now text) (now ats) (now lens) events) (now pre) (now post) m events) ≤ length (now out) ⌝ }
-    ensures { λ r. ⌜ Writes (movesBytes (namesIn (now (text .entry)) (now (ats .entry)) (now (lens .entry)) events) (now (pre .entry)) (now (post .entry)) m events) at (now (out .entry)) r (now (out .exit)) ⌝ }
+    requires { ⌜ ((e : ℕ) → e < events → entry (now lens) e ≤ 16) × NamesInside (now text) (now ats) (now lens) events ⌝ }
+    requires { ⌜ (at + length (movesBytes (namesIn (now text) (now ats) (now lens) events) (now pre) (now post) m events) ≤ size) × (size ≤ length (now out)) ⌝ }
+    ensures { λ r. ⌜ WritesWithin (movesBytes (namesIn (now (text .entry)) (now (ats .entry)) (now (lens .entry)) events) (now (pre .entry)) (now (post .entry)) m events) at size (now (out .entry)) r (now (out .exit)) ⌝ }
 {
-    let from = m * MAX_EVENTS;
     let mut i = at;
     let mut e = 0;
     while e < events {
-        let q = pre[from + e];
+        let k = e * MAX_MACHINES + m;
+        let q = pre[k];
         if wide(q) < MAX_PLACES {
-            let start = ats[e];
-            let end = start + lens[e];
-            i = write_move(&text[start..end], q, post[from + e], out, i);
+            i = write_move(text, ats[e], lens[e], q, post[k], out, i, size);
         }
         e += 1;
     }
@@ -152,33 +250,33 @@ fn write_head(m: usize, size: usize, start: u8, out: &mut [u8], at: usize) -> us
 }
 
 // The whole sheet, at the beginning of the buffer.
-pub fn write_sheet(text: &[u8], p: Tables, pre: &[u8], post: &[u8], out: &mut [u8])
-    requires { ⌜ Bounded p × MoveRows (now pre) (now post) × NamesInside (now text) (p .«name_at») (p .«name_len») (p .events) ⌝ }
-    requires { ⌜ length (rowSheet (now text) p (now pre) (now post)) ≤ length (now out) ⌝ }
-    ensures { λ _. ⌜ now (out .exit) ≡ sets (now (out .entry)) 0 (rowSheet (now (text .entry)) p (now (pre .entry)) (now (post .entry))) ⌝ }
+pub fn write_sheet<'a>(
+    text: &[u8],
+    c: Counts,
+    ats: &'a [usize],
+    lens: &'a [usize],
+    sizes: &'a [usize],
+    place: &[u8],
+    pre: &[u8],
+    post: &[u8],
+    out: &mut [u8],
+    size: usize,
+)
+    requires { ⌜ SheetBounds c (now lens) (now sizes) (now place) × (length (now ats) ≡ 64) × MoveRows (now pre) (now post) × NamesInside (now text) (now ats) (now lens) (c .events) ⌝ }
+    requires { ⌜ (size ≡ length (rowSheet (now text) (sheetRows c (now ats) (now lens) (now sizes) (now place)) (now pre) (now post))) × (size ≤ length (now out)) ⌝ }
+    ensures { λ _. ⌜ SheetLeft (now (text .entry)) c (now (ats .entry)) (now (lens .entry)) (now (sizes .entry)) (now (place .entry)) (now (pre .entry)) (now (post .entry)) (now (out .entry)) (now (out .exit)) ⌝ }
 {
-    let machines = p.machines;
-    let events = p.events;
-    let initial = p.initial;
+    let machines = c.machines;
     let a = write_bytes(b"(accepted ", out, 0);
     let b = write_figure(machines, out, a);
     let mut i = write_bytes(b")\n", out, b);
     let mut m = 0;
     while m < machines {
-        let start = p.place[m * MAX_STATES + initial];
-        let size = p.sizes[m];
-        let head = write_head(m, size, start, out, i);
-        let moves = write_moves(
-            text,
-            &p.name_at,
-            &p.name_len,
-            pre,
-            post,
-            m,
-            events,
-            out,
-            head,
-        );
+        let events = c.events;
+        let initial = c.initial;
+        let start = place[m * MAX_STATES + initial];
+        let head = write_head(m, sizes[m], start, out, i);
+        let moves = write_moves(text, ats, lens, pre, post, m, events, out, head, size);
         i = write_bytes(b")\n", out, moves);
         m += 1;
     }

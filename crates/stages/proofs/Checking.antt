@@ -1,4 +1,4 @@
--- The checks as far as 7 and 12 in the model's words, by what the code finds out on its way: whether the text is read, and what 4 to 12 say of its value.
+-- The checks as far as 7, 10 and 12 in the model's words, by what the code finds out on its way: whether the text is read, and what 4 to 12 say of its value.
 use Prim.Native.Nat.{ℕ}
 use mathlib.Core.Path.{_≡_, refl, ap, sym, _∙_}
 use mathlib.Core.List.{List}
@@ -13,7 +13,7 @@ use Rattle.model.specs.Services.{asFarAs7, asFarAs10, asFarAs12}
 use Rattle.reader.specs.declared.Verdict.{Verdict}
 use Rattle.reader.specs.declared.Verdict.the-variants.{Refused}
 use Rattle.reader.specs.Tables.{verdictRefusal}
-use Rattle.checker.specs.Order.{refusalTo12}
+use Rattle.checker.specs.Order.{refusalTo10}
 
 -- what passed, if nothing is refused
 pub was-passed : {A : Type 0} (c : Checked A) → refusalOf c ≡ none → (a : A) × (c ≡ passed a)
@@ -29,16 +29,12 @@ pub refused-as : {A : Type 0} {c : Checked A} {r : Verdict} {why : D.Refusal} �
 unfolding verdictRefusal
 refused-as {c = c} h e = was-refused c _ (sym h ∙ ap verdictRefusal e)
 
--- three checks, one after the other, are one
-joined : (v : Input) (a : Option Refusal) (f g : Input → Option Refusal)
-    → (((unless a >> passed v) >>= λ w. unless (f w) >> passed w) >>= λ w. unless (g w) >> passed w) ≡ (unless (orElse a (orElse (f v) (g v))) >> passed v)
+-- two checks, one after the other, are one
+joined : (v : Input) (a : Option Refusal) (f : Input → Option Refusal)
+    → ((unless a >> passed v) >>= λ w. unless (f w) >> passed w) ≡ (unless (orElse a (f v)) >> passed v)
 unfolding orElse
-joined v (some r) f g = refl
-joined v none f g = next (f v)
-  where
-    next : (b : Option Refusal) → ((unless b >> passed v) >>= λ w. unless (g w) >> passed w) ≡ (unless (orElse b (g v)) >> passed v)
-    next none = refl
-    next (some r) = refl
+joined v (some r) f = refl
+joined v none f = refl
 
 -- ---- as far as 7
 
@@ -62,24 +58,40 @@ module _ (s : List ℕ) where
     unfolding asFarAs7
     passed-7 h = rw (e, h)
 
--- ---- as far as 12
+-- ---- as far as 10
 
 module _ (s : List ℕ) where
   -- refused by 1 to 3
-  pub unread-12 : (r : Refusal) → refusalOf (read s) ≡ some r → refusalOf (asFarAs12 s) ≡ some r
-  unfolding asFarAs12 asFarAs10 asFarAs7
-  unread-12 r e = rw (was-refused (read s) r e)
+  pub unread-10 : (r : Refusal) → refusalOf (read s) ≡ some r → refusalOf (asFarAs10 s) ≡ some r
+  unfolding asFarAs10 asFarAs7
+  unread-10 r e = rw (was-refused (read s) r e)
 
   module _ (v : Input) (e : read s ≡ passed v) where
-    in-one : asFarAs12 s ≡ (unless (refusalTo12 (system v) (v .machines)) >> passed v)
-    unfolding asFarAs12 asFarAs10 asFarAs7 refusalTo12
-    in-one =
-        rw e
-        (joined v (systemRefusal (system v)) (λ w. machinesRefusal (system w) 0 (w .machines)) (λ w. coverRefusal (system w) (w .machines)))
+    in-one : asFarAs10 s ≡ (unless (refusalTo10 (system v) (v .machines)) >> passed v)
+    unfolding asFarAs10 asFarAs7 refusalTo10
+    in-one = rw e (joined v (systemRefusal (system v)) (λ w. machinesRefusal (system w) 0 (w .machines)))
 
-    -- the refusal is that of 4 to 12
-    pub refusal-12 : refusalOf (asFarAs12 s) ≡ refusalTo12 (system v) (v .machines)
-    refusal-12 = rw in-one (only-check v (refusalTo12 (system v) (v .machines)))
+    -- the refusal is that of 4 to 10
+    pub refusal-10 : refusalOf (asFarAs10 s) ≡ refusalTo10 (system v) (v .machines)
+    refusal-10 = rw in-one (only-check v (refusalTo10 (system v) (v .machines)))
 
-    pub passed-12 : refusalTo12 (system v) (v .machines) ≡ none → asFarAs12 s ≡ passed v
-    passed-12 h = rw h at in-one
+    pub passed-10 : refusalTo10 (system v) (v .machines) ≡ none → asFarAs10 s ≡ passed v
+    passed-10 h = rw h at in-one
+
+-- ---- as far as 12
+
+module _ (s : List ℕ) where
+  -- refused by 1 to 10
+  pub refused-12 : (r : Refusal) → refusalOf (asFarAs10 s) ≡ some r → refusalOf (asFarAs12 s) ≡ some r
+  unfolding asFarAs12
+  refused-12 r e = rw (was-refused (asFarAs10 s) r e)
+
+  module _ (v : Input) (e : asFarAs10 s ≡ passed v) where
+    -- the refusal is that of 11 and 12
+    pub refusal-12 : refusalOf (asFarAs12 s) ≡ coverRefusal (system v) (v .machines)
+    unfolding asFarAs12
+    refusal-12 = rw e (only-check v (coverRefusal (system v) (v .machines)))
+
+    pub passed-12 : coverRefusal (system v) (v .machines) ≡ none → asFarAs12 s ≡ passed v
+    unfolding asFarAs12
+    passed-12 h = rw (e, h)

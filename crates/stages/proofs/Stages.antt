@@ -1,32 +1,39 @@
--- What the code knows of a text once it is read, once it is past 7, and once it is past 12.
+-- What the code knows of a text once it is read, once it is past 7, past 10, and past 12.
 use Prim.Native.Nat.{ℕ}
+use native.Mathlib.Omega.{arith}
 use mathlib.Core.Path.{_≡_, refl, ap, sym, subst, _∙_}
 use mathlib.Core.List.{List}
-use mathlib.Core.Option.{none}
-use lib.ListN.{length, replicate}
+use mathlib.Core.Option.{none, some}
+use lib.ListN.{length, replicate, length-replicate}
+use lib.Seq.{length-sets}
 use Rattle.model.specs.declared.Refusal as D
 use Rattle.model.specs.Cases.{tabled}
 use Rattle.model.specs.Refusal.{refused, passed, refusalOf}
 use Rattle.model.specs.TransitionSystem.{TransitionSystem, systemRefusal}
-use Rattle.model.specs.Machine.{Decomposition, machinesRefusal}
+use Rattle.model.specs.Machine.{Decomposition, machinesRefusal, coverRefusal}
 use Rattle.model.specs.Text.{Input, system, read}
-use Rattle.model.specs.Services.{asFarAs7, asFarAs12}
+use Rattle.model.specs.Services.{asFarAs7, asFarAs10, asFarAs12}
 use Rattle.model.proofs.Laws.{orElse-none}
 use Rattle.reader.specs.declared.Verdict.{Verdict}
 use Rattle.reader.specs.declared.Verdict.the-variants.{Refused, Passed}
 use Rattle.reader.specs.declared.Tables.{Tables}
 use Rattle.reader.specs.declared.Reading.{Reading}
-use Rattle.reader.specs.Tables.{verdictRefusal, tablesOf}
+use Rattle.reader.specs.Tables.{verdictRefusal, tablesOf, tablesIn}
+use Rattle.reader.specs.declared.Counts.{Counts}
 use Rattle.reader.specs.Told.{systemOf, MachinesTold, Told}
+use Rattle.reader.specs.Lent.{FreshRows, ReadsRows}
+use Rattle.reader.specs.Bounded.{Bounded}
 use Rattle.reader.proofs.Bounds.{bounded, names-inside}
 use Rattle.reader.proofs.Fronts.{front-length}
 use Rattle.reader.proofs.Telling.{told-transitions}
-use Rattle.closure.specs.Covers.{CoverTold}
-use Rattle.closure.proofs.Filling.{no-machines}
-use Rattle.checker.specs.Order.{refusalTo12, CheckedTo12}
+use Rattle.transition_system.specs.Sets.{systemRows}
+use Rattle.regions.specs.Regions.{rowsOf, RowLengths}
+use Rattle.closure.specs.Covers.{CountsBounded, CoverTold, CoverJudged}
+use Rattle.checker.specs.Order.{refusalTo10, CheckedTo10}
 use Rattle.checker.proofs.Verdicts.{refuses, lets-pass, no-excitations}
-use Rattle.stages.specs.Stages.{Held, ReadAsFarAs7, Fresh, Judged, ReadAsFarAs12}
-use Rattle.stages.proofs.Checking.{was-passed, refused-as, unread-7, refusal-7, passed-7, unread-12, refusal-12, passed-12}
+use Rattle.lines.specs.Rows.{row}
+use Rattle.stages.specs.Stages.{Held, Sized, ReadAsFarAs7, Fresh, Past10, ReadAsFarAs10, Judged, ReadAsFarAs12}
+use Rattle.stages.proofs.Checking.{was-passed, refused-as, unread-7, refusal-7, passed-7, unread-10, refusal-10, passed-10, refused-12, refusal-12, passed-12}
 
 -- ---- what the reader answers
 
@@ -35,6 +42,59 @@ pub held : (s : List ℕ) (r : Verdict) (p : Tables) → verdictRefusal r ≡ re
 held s r p h e q told =
     let (v, reads) = was-passed (read s) (sym h ∙ lets-pass e) in
     record { value = v; passes = reads; told = told v reads; bounds = rw q (bounded s v reads); names = rw q (names-inside s v reads) }
+
+-- ---- what the checks ask of the rows
+
+-- the counts of the rows
+abbrev pub countsOf : Tables → Counts
+countsOf p = record { states = p .states; initial = p .initial; events = p .events; transitions = p .transitions; machines = p .machines }
+
+-- names and sizes are of no account to the checks
+pub rows-bounded : {p : Tables} → Bounded p → Bounded (rowsOf (countsOf p) (p .source) (p .event) (p .target) (p .duplicate) (p .place))
+rows-bounded b =
+    record {
+      states = b .states;
+      initial = b .initial;
+      events = b .events;
+      names = λ e l. omega arith;
+      transitions = b .transitions;
+      source = b .source;
+      event = b .event;
+      target = b .target;
+      machines = b .machines;
+      sizes = λ k l. omega arith;
+    }
+
+-- the rows that a text fills have their sizes
+length-row : (n x : ℕ) (xs : List ℕ) → length (row n x xs) ≡ n
+unfolding row
+length-row n x xs = length-sets {A = ℕ} (replicate n x) 0 xs ∙ length-replicate {A = ℕ} n x
+
+filled-sized : (v : Input) → Sized (tablesOf (passed v))
+unfolding tablesOf
+filled-sized v =
+    record {
+      name-places = length-row 64 0 _;
+      name-lengths = length-row 64 0 _;
+      sources = length-row 1024 0 _;
+      events = length-row 1024 0 _;
+      targets = length-row 1024 0 _;
+      place-counts = length-row 16 0 _;
+      duplicates = length-row 16 256 _;
+      places = length-row 4096 255 _;
+    }
+
+pub row-lengths : {p : Tables} → Sized p → RowLengths (p .source) (p .event) (p .target) (p .duplicate) (p .place)
+row-lengths z = record { sources = z .sources; events = z .events; targets = z .targets; duplicates = z .duplicates; places = z .places }
+
+-- the text passes 1 to 3, and these rows are filled
+module _ {s : List ℕ} {r : Verdict} {c : Counts} {ats lens sources events targets sizes duplicates places : List ℕ} (h : verdictRefusal r ≡ refusalOf (read s)) (e : r ≡ Passed)
+    (t : ReadsRows s c ats lens sources events targets sizes duplicates places) where
+  pub rows-held : Held (read s) s (tablesIn c ats lens sources events targets sizes duplicates places)
+  rows-held = let (v, reads) = was-passed (read s) (sym h ∙ lets-pass e) in held s r _ h e (t .tables v reads ∙ ap tablesOf (sym reads)) (t .told)
+
+  pub rows-sized : Sized (tablesIn c ats lens sources events targets sizes duplicates places)
+  rows-sized = let (v, reads) = was-passed (read s) (sym h ∙ lets-pass e) in subst Sized (sym (t .tables v reads)) (filled-sized v)
 
 -- ---- what 4 to 7 answer
 
@@ -51,24 +111,39 @@ module _ {s : List ℕ} {p : Tables} (h : Held (read s) s p) where
   held-7 n = record { value = h .value; passes = passed-7 s (h .value) (h .passes) n; told = h .told; bounds = h .bounds; names = h .names }
 
   -- the verdict on the rows' transition system is that on the text
-  pub judged-7 : (r : Verdict) → verdictRefusal r ≡ systemRefusal (systemOf p) → ReadAsFarAs7 s (record { verdict = r; tables = p })
+  pub judged-7 : (r : Verdict) → verdictRefusal r ≡ systemRefusal (systemOf (systemRows (countsOf p) (p .source) (p .event) (p .target)))
+      → ReadAsFarAs7 s (record { verdict = r; tables = p })
+  unfolding systemOf
   judged-7 r e =
       let q : verdictRefusal r ≡ systemRefusal (system (h .value)) = e ∙ ap systemRefusal (h .told .tells-system) in
       record { verdict = q ∙ sym (refusal-7 s (h .value) (h .passes)); held = λ n. held-7 (sym q ∙ n) }
 
--- ---- what 4 to 12 answer
+-- ---- what 4 to 10 answer
 
 -- refused by 1 to 3
-pub refused-to-3-12 : {s : List ℕ} {r : Reading} {why : D.Refusal} {pre post sets excited : List ℕ} → verdictRefusal (r .verdict) ≡ refusalOf (read s)
-    → r .verdict ≡ Refused why → ReadAsFarAs12 s r pre post sets excited
+pub refused-to-3-10 : {s : List ℕ} {p : Tables} {r : Verdict} {why : D.Refusal} {pre post excited : List ℕ} → verdictRefusal r ≡ refusalOf (read s) → r ≡ Refused why
+    → ReadAsFarAs10 s r p pre post excited
 unfolding verdictRefusal
-refused-to-3-12 {s} {why = why} h e =
+refused-to-3-10 {s} {why = why} h e =
     let q = ap verdictRefusal e in
-    record { verdict = q ∙ sym (unread-12 s (tabled why) (sym h ∙ q)); judged = λ n. refuses why (sym q ∙ n) }
+    record { verdict = q ∙ sym (unread-10 s (tabled why) (sym h ∙ q)); past = λ n. refuses why (sym q ∙ n) }
 
 -- the rows as they are made
-pub fresh : Fresh (replicate 1024 255) (replicate 1024 0) (replicate 256 0) (replicate 4096 0)
-fresh = record { moves = record { pre-size = refl; post-size = refl }; excitations = no-excitations; places = no-machines }
+pub fresh : Fresh (replicate 1024 255) (replicate 1024 0) (replicate 256 0)
+fresh = record { moves = record { pre-size = refl; post-size = refl }; excitations = no-excitations }
+
+pub fresh-rows : FreshRows (replicate 64 0) (replicate 64 0) (replicate 1024 0) (replicate 1024 0) (replicate 1024 0) (replicate 16 0) (replicate 16 256) (replicate 4096 255)
+fresh-rows =
+    record {
+      fresh-name-at = refl;
+      fresh-name-len = refl;
+      fresh-source = refl;
+      fresh-event = refl;
+      fresh-target = refl;
+      fresh-sizes = refl;
+      fresh-duplicate = refl;
+      fresh-place = refl;
+    }
 
 module _ {s : List ℕ} {p : Tables} (h : Held (read s) s p) where
   abbrev machines : Decomposition
@@ -82,37 +157,80 @@ module _ {s : List ℕ} {p : Tables} (h : Held (read s) s p) where
   machines-told = subst (λ (t : TransitionSystem). MachinesTold t p machines) (sym same) (h .told .tells-machines)
 
   -- the verdict on what the rows tell is that on the text
-  pub judged-12 : (r : Verdict) {pre post sets excited : List ℕ} → CheckedTo12 p pre post sets excited r
-      → ReadAsFarAs12 s (record { verdict = r; tables = p }) pre post sets excited
-  judged-12 r {pre} {post} {sets} {excited} t =
-      let q = t .refusal machines machines-told ∙ ap (λ (t : TransitionSystem). refusalTo12 t machines) same in
+  pub judged-10 : (r : Verdict) {pre post excited : List ℕ} → Sized p → CheckedTo10 p pre post excited r → ReadAsFarAs10 s r p pre post excited
+  judged-10 r {pre} {post} {excited} sized t =
+      let q = t .refusal machines machines-told ∙ ap (λ (t : TransitionSystem). refusalTo10 t machines) same in
       record {
-        verdict = q ∙ sym (refusal-12 s (h .value) (h .passes));
-        judged = λ n.
+        verdict = q ∙ sym (refusal-10 s (h .value) (h .passes));
+        past = λ n.
             record {
               held = h;
+              sized = sized;
               passes = sym q ∙ n;
-              cover = subst (λ (t : TransitionSystem). CoverTold t machines pre post sets excited) same (t .rows machines machines-told n);
+              cover = subst (λ (t : TransitionSystem). CoverTold t machines pre post (p .place) excited) same (t .rows machines machines-told n);
             };
       }
 
-module _ {s : List ℕ} {r : Reading} {pre post sets excited : List ℕ} (t : ReadAsFarAs12 s r pre post sets excited) where
-  pub refused-text : {why : D.Refusal} → r .verdict ≡ Refused why → asFarAs12 s ≡ refused (tabled why)
-  refused-text e = refused-as (t .verdict) e
+module _ {s : List ℕ} {r : Verdict} {p : Tables} {pre post excited : List ℕ} (t : ReadAsFarAs10 s r p pre post excited) where
+  pub refused-text-10 : {why : D.Refusal} → r ≡ Refused why → asFarAs12 s ≡ refused (tabled why)
+  unfolding verdictRefusal
+  refused-text-10 {why} e = refused-as {r = Refused why} (sym (refused-12 s (tabled why) (sym (t .verdict) ∙ ap verdictRefusal e))) refl
 
-  pub past-text : r .verdict ≡ Passed → Judged s (r .tables) pre post sets excited
-  past-text e = t .judged (lets-pass e)
+  pub past-text-10 : r ≡ Passed → Past10 s p pre post excited
+  past-text-10 e = t .past (lets-pass e)
 
-module _ {s : List ℕ} {p : Tables} {pre post rows excited : List ℕ} (j : Judged s p pre post rows excited) where
+  -- refused by 1 to 10
+  pub refused-to-10 : {why : D.Refusal} → r ≡ Refused why → ReadAsFarAs12 s r p pre post excited
+  unfolding verdictRefusal
+  refused-to-10 {why} e =
+      let q = ap verdictRefusal e in
+      record { verdict = q ∙ sym (refused-12 s (tabled why) (sym (t .verdict) ∙ q)); judged = λ n. refuses why (sym q ∙ n) }
+
+module _ {s : List ℕ} {p : Tables} {pre post excited : List ℕ} (k : Past10 s p pre post excited) where
   abbrev value : Input
-  value = j .held .value
+  value = k .held .value
 
-  pub past-12 : asFarAs12 s ≡ passed value
-  past-12 = passed-12 s value (j .held .passes) (j .passes)
+  pub past-10 : asFarAs10 s ≡ passed value
+  past-10 = passed-10 s value (k .held .passes) (k .passes)
 
   pub machines-pass : machinesRefusal (system value) 0 (value .machines) ≡ none
-  unfolding refusalTo12
-  machines-pass = orElse-none _ _ (orElse-none _ _ (j .passes) .1) .0
+  unfolding refusalTo10
+  machines-pass = orElse-none _ _ (k .passes) .1
+
+  -- what 11 and 12 ask for of the counts, and their verdict on the text
+  pub counts-bounded : CountsBounded (countsOf p)
+  counts-bounded = let b = k .held .bounds in record { states = b .states; events = b .events; machines = b .machines }
+
+  pub cover-refusal : {r : Verdict} → CoverJudged (countsOf p) pre (p .place) excited r → verdictRefusal r ≡ coverRefusal (system value) (value .machines)
+  unfolding systemOf
+  cover-refusal j =
+      let told = k .held .told in
+      j .judges (system value) (value .machines) post (k .cover) (sym (ap (λ (t : TransitionSystem). t .states) (told .tells-system)))
+      (sym (ap (λ (t : TransitionSystem). t .events) (told .tells-system))) (sym (told .tells-machines .counted))
+
+  pub covered-12 : coverRefusal (system value) (value .machines) ≡ none → asFarAs12 s ≡ passed value
+  covered-12 n = passed-12 s value past-10 n
+
+  pub refused-cover : (why : D.Refusal) → coverRefusal (system value) (value .machines) ≡ some (tabled why) → asFarAs12 s ≡ refused (tabled why)
+  unfolding verdictRefusal
+  refused-cover why q = refused-as {r = Refused why} (sym q ∙ sym (refusal-12 s value past-10)) refl
+
+  pub judged-12 : (r : Verdict) → CoverJudged (countsOf p) pre (p .place) excited r → ReadAsFarAs12 s r p pre post excited
+  judged-12 r j =
+      record {
+        verdict = cover-refusal j ∙ sym (refusal-12 s value past-10);
+        judged = λ n. record { past = k; covered = sym (cover-refusal j) ∙ n };
+      }
+
+module _ {s : List ℕ} {r : Verdict} {p : Tables} {pre post excited : List ℕ} (t : ReadAsFarAs12 s r p pre post excited) where
+  pub refused-text : {why : D.Refusal} → r ≡ Refused why → asFarAs12 s ≡ refused (tabled why)
+  refused-text e = refused-as (t .verdict) e
+
+  pub past-text : r ≡ Passed → Judged s p pre post excited
+  past-text e = t .judged (lets-pass e)
+
+pub past-12 : {s : List ℕ} {p : Tables} {pre post excited : List ℕ} (j : Judged s p pre post excited) → asFarAs12 s ≡ passed (j .past .held .value)
+past-12 j = covered-12 (j .past) (j .covered)
 
 -- the rows count the value's transitions
 pub counted : {s : List ℕ} {p : Tables} (h : Held (asFarAs7 s) s p) → p .transitions ≡ length (h .value .transitions)

@@ -1,20 +1,23 @@
--- What is known of a text once it is read, once it is past 7, and once it is past 12.
+-- What is known of a text once it is read, once it is past 7, past 10, and past 12.
 use Prim.Native.Nat.{ℕ}
 use mathlib.Core.Path.{_≡_}
 use mathlib.Core.List.{List, []}
 use mathlib.Core.Option.{none}
+use lib.ListN.{length}
 use Rattle.model.specs.Refusal.{Checked, passed, refusalOf}
 use Rattle.model.specs.Text.{Input, system, read}
-use Rattle.model.specs.Services.{asFarAs7, asFarAs12}
+use Rattle.model.specs.Machine.{coverRefusal}
+use Rattle.model.specs.Services.{asFarAs7, asFarAs10, asFarAs12}
 use Rattle.reader.specs.declared.Tables.{Tables}
 use Rattle.reader.specs.declared.Reading.{Reading}
+use Rattle.reader.specs.declared.Verdict.{Verdict}
 use Rattle.reader.specs.Tables.{verdictRefusal}
 use Rattle.reader.specs.Told.{Told}
 use Rattle.reader.specs.Bounded.{Bounded, NamesInside}
 use Rattle.transition_system.specs.Sets.{Excitations}
 use Rattle.regions.specs.Moves.{MoveRows}
-use Rattle.closure.specs.Covers.{PlaceSets, CoverTold}
-use Rattle.checker.specs.Order.{refusalTo12}
+use Rattle.closure.specs.Covers.{CoverTold}
+use Rattle.checker.specs.Order.{refusalTo10}
 
 -- the text has passed this check, and the rows hold its value
 pub record Held (checked : Checked Input) (s : List ℕ) (p : Tables) : Type 0 where
@@ -29,18 +32,38 @@ pub record ReadAsFarAs7 (s : List ℕ) (r : Reading) : Type 0 where
   pub verdict : verdictRefusal (r .verdict) ≡ refusalOf (asFarAs7 s)
   pub held : verdictRefusal (r .verdict) ≡ none → Held (asFarAs7 s) s (r .tables)
 
--- the rows that are lent for the check as far as 12: of their full size, with no state in any set
-pub record Fresh (pre post excited sets : List ℕ) : Type 0 where
+-- the rows of moves and excitation sets that are lent for the check as far as 10: of their full size, with no state in any set
+pub record Fresh (pre post excited : List ℕ) : Type 0 where
   pub moves : MoveRows pre post
   pub excitations : Excitations [] excited
-  pub places : (place : List ℕ) (n : ℕ) → PlaceSets place n 0 sets
 
--- the text is read, its value is past 12, and the rows tell the moves and places of its machines and the excitation sets
-pub record Judged (s : List ℕ) (p : Tables) (pre post sets excited : List ℕ) : Type 0 where
+-- the rows have their full sizes
+pub record Sized (p : Tables) : Type 0 where
+  pub name-places : length (p .«name_at») ≡ 64
+  pub name-lengths : length (p .«name_len») ≡ 64
+  pub sources : length (p .source) ≡ 1024
+  pub events : length (p .event) ≡ 1024
+  pub targets : length (p .target) ≡ 1024
+  pub place-counts : length (p .sizes) ≡ 16
+  pub duplicates : length (p .duplicate) ≡ 16
+  pub places : length (p .place) ≡ 4096
+
+-- the text is read, its value is past 10, and the rows tell the moves and places of its machines and the excitation sets
+pub record Past10 (s : List ℕ) (p : Tables) (pre post excited : List ℕ) : Type 0 where
   pub held : Held (read s) s p
-  pub passes : refusalTo12 (system (held .value)) (held .value .machines) ≡ none
-  pub cover : CoverTold (system (held .value)) (held .value .machines) pre post sets excited
+  pub sized : Sized p
+  pub passes : refusalTo10 (system (held .value)) (held .value .machines) ≡ none
+  pub cover : CoverTold (system (held .value)) (held .value .machines) pre post (p .place) excited
 
-pub record ReadAsFarAs12 (s : List ℕ) (r : Reading) (pre post sets excited : List ℕ) : Type 0 where
-  pub verdict : verdictRefusal (r .verdict) ≡ refusalOf (asFarAs12 s)
-  pub judged : verdictRefusal (r .verdict) ≡ none → Judged s (r .tables) pre post sets excited
+pub record ReadAsFarAs10 (s : List ℕ) (r : Verdict) (p : Tables) (pre post excited : List ℕ) : Type 0 where
+  pub verdict : verdictRefusal r ≡ refusalOf (asFarAs10 s)
+  pub past : verdictRefusal r ≡ none → Past10 s p pre post excited
+
+-- the same past 12
+pub record Judged (s : List ℕ) (p : Tables) (pre post excited : List ℕ) : Type 0 where
+  pub past : Past10 s p pre post excited
+  pub covered : coverRefusal (system (past .held .value)) (past .held .value .machines) ≡ none
+
+pub record ReadAsFarAs12 (s : List ℕ) (r : Verdict) (p : Tables) (pre post excited : List ℕ) : Type 0 where
+  pub verdict : verdictRefusal r ≡ refusalOf (asFarAs12 s)
+  pub judged : verdictRefusal r ≡ none → Judged s p pre post excited

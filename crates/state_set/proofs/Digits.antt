@@ -1,7 +1,7 @@
 -- The digits of what `&`, `|`, `!`, `<<` and `trailing_zeros` give.
 use mathlib.Core.Path.{_≡_, refl, sym, ap, _∙_, subst}
 use mathlib.Core.Logic.{_⊎_, inl, inr, ⊎-elim}
-use mathlib.Core.Bool.{true, false, not, _&&_, _||_}
+use mathlib.Core.Bool.{Bool, true, false, not, _&&_, _||_}
 use Prim.Native.Nat.{ℕ, zero, suc, _-_, _*_, _/_, _%_, _^_, _<_, suc-le-suc}
 use native.Mathlib.Nat.{mod-lt, div-one, pow-suc, zero-lt-suc, le-of-suc-le-suc, not-suc-le-zero, zero-div, sub-zero, eq-zero-or-pos}
 use native.Mathlib.Numerals.{one-add}
@@ -134,3 +134,30 @@ trailing-below (suc k) w zero l =
 trailing-below (suc k) w (suc i) l =
     ⊎-elim (λ e. bit-suc w i ∙ trailing-below k (w / 2) i (le-of-suc-le-suc (rw (trailing-even k w e) at l)))
     (λ e. absurd (not-suc-le-zero (rw (trailing-odd k w e) at l))) (odd-or-even w)
+
+-- ---- `w & (w - 1)`: the lowest digit is cleared
+self-and : (b : Bool) → (b && b) ≡ (b && true)
+self-and true = refl
+self-and false = refl
+
+odd-less : (w i : ℕ) → w % 2 ≡ 1 → (bit w i && bit (w - 1) i) ≡ (bit w i && not (eqb i 0))
+odd-less w zero e =
+    let even : (w - 1) % 2 ≡ 0 = omega arith in
+    rw (bit-zero (w - 1), even)
+odd-less w (suc i) e =
+    let half : (w - 1) / 2 ≡ w / 2 = omega arith in
+    rw (bit-suc w i, bit-suc (w - 1) i, half, eqb·suc-zero i) (self-and (bit (w / 2) i))
+
+even-less : (w i t : ℕ) → w % 2 ≡ 0 → 0 < w → ((j : ℕ) → (bit (w / 2) j && bit (w / 2 - 1) j) ≡ (bit (w / 2) j && not (eqb j t)))
+    → (bit w i && bit (w - 1) i) ≡ (bit w i && not (eqb i (suc t)))
+even-less w zero t e p ih = rw (bit-zero w, e)
+even-less w (suc i) t e p ih =
+    let half : (w - 1) / 2 ≡ w / 2 - 1 = omega arith in
+    rw (bit-suc w i, bit-suc (w - 1) i, half, eqb·suc-suc i t) (ih i)
+
+pub less-bit : (k w i : ℕ) → w < 2 ^ k → 0 < w → (bit w i && bit (w - 1) i) ≡ (bit w i && not (eqb i (trailingZeros k w)))
+less-bit zero w i h p = absurd (omega arith)
+less-bit (suc k) w i h p =
+    let h′ : w < 2 ^ k * 2 = subst (λ (x : ℕ). w < x) (pow-suc 2 k) h in
+    ⊎-elim (λ e. rw (trailing-even k w e) (even-less w i (trailingZeros k (w / 2)) e p (λ j. less-bit k (w / 2) j (half-below (2 ^ k) w h′) (omega arith))))
+    (λ e. rw (trailing-odd k w e) (odd-less w i e)) (odd-or-even w)

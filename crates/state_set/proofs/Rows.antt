@@ -1,18 +1,20 @@
 -- Rows of sets: what is stored where, and what a row of empty and one of full sets has.
 use mathlib.Core.Path.{_≡_, refl, ap, sym, _∙_}
-use mathlib.Core.Bool.{Bool, false, cond, _&&_, _||_, or-false}
+use mathlib.Core.Bool.{Bool, false, cond, _&&_, _||_, and-false, or-false}
 use mathlib.Core.List.{List}
-use Prim.Native.Nat.{ℕ, zero, suc, _+_, _*_, _/_, _<_}
-use native.Mathlib.Decide.{ℕ-discrete}
+use Prim.Native.Nat.{ℕ, zero, suc, _+_, _*_, _/_, _%_, _<_, _≤_}
+use native.Mathlib.Decide.{ℕ-discrete, decLt}
 use native.Mathlib.Omega.{arith}
 use borrow.Author.Tests.{eq-eqb, ne-eqb}
+use lib.Bits.{bitOr}
 use lib.Dec.{eqb, ltb}
 use lib.ListN.{length, getD, set, replicate, length-set, getD-replicate}
 use lib.Seq.{getD-set-same, getD-set-other}
-use Rattle.state_set.specs.Member.{member}
+use Rattle.state_set.specs.Member.{bit, member, wordAt}
 use Rattle.state_set.specs.Rows.{setAt, memberAt, Stored, Inserted}
 use Rattle.state_set.specs.declared.StateSet.{StateSet}
-use Rattle.state_set.proofs.Sets.{empty-member, fullWord, full-member}
+use Rattle.state_set.proofs.Digits.{or-bit}
+use Rattle.state_set.proofs.Sets.{no-member, empty-member, fullWord, full-member, shifted, shifted-bit}
 
 -- ---- a set is stored, word by word
 abbrev one : List ℕ → ℕ → StateSet → List ℕ
@@ -82,16 +84,57 @@ module _ {k : ℕ} {a : StateSet} {old new : List ℕ} (s : Stored k a old new) 
   unfolding memberAt
   stored-else j i n = members j i (ne-eqb j k n)
 
--- ---- a state is added
--- what `load`, `single`, `join` and `store` gave, in that order
-pub inserted : {k state : ℕ} {old new : List ℕ} {a r : StateSet} (s : StateSet) → a ≡ setAt old k → ((i : ℕ) → member s i ≡ eqb i state)
-    → ((i : ℕ) → member r i ≡ (member a i || member s i)) → Stored k r old new → Inserted k state old new
+-- ---- a state of a set is a digit of one word
+-- the word of set k that a state stands in
+abbrev place : ℕ → ℕ → ℕ
+place k x = k * 4 + x / 64
+
+word-at : (row : List ℕ) (k q : ℕ) → q < 4 → wordAt (setAt row k) q ≡ getD row (k * 4 + q) 0
+unfolding wordAt setAt
+word-at row k zero l = let e : k * 4 + 0 ≡ k * 4 = omega arith in rw e
+word-at row k (suc zero) l = refl
+word-at row k (suc (suc zero)) l = refl
+word-at row k (suc (suc (suc zero))) l = refl
+word-at row k (suc (suc (suc (suc q)))) l = absurd (omega arith)
+
+pub digit-at : (row : List ℕ) (k x : ℕ) → x < 256 → memberAt row k x ≡ bit (getD row (place k x) 0) (x % 64)
+unfolding memberAt member
+digit-at row k x l = ap (λ (w : ℕ). bit w (x % 64)) (word-at row k (x / 64) (omega arith))
+
+no-digit : (row : List ℕ) (k x : ℕ) → 256 ≤ x → memberAt row k x ≡ false
 unfolding memberAt
-inserted {k} {state} {old} {new} {a} {r} s e o b w = record { size = w .size; members = λ j i. go j i (ℕ-discrete j k) }
-  where
-    go : (j i : ℕ) → Dec (j ≡ k) → memberAt new j i ≡ (memberAt old j i || (eqb j k && eqb i state))
-    go j i (yes p) = stored-here w j i p ∙ b i ∙ rw (e, p, o, eq-eqb k k refl)
-    go j i (no n) = stored-else w j i n ∙ rw (ne-eqb j k n) (sym (or-false (memberAt old j i)))
+no-digit row k x l = no-member (setAt row k) x l
+
+-- ---- a state is added
+module _ (old : List ℕ) (k x : ℕ) (low : x < 256) (h : k * 4 + 3 < length old) where
+  -- the row with the state in
+  abbrev added : List ℕ
+  added = set old (place k x) (bitOr (getD old (place k x) 0) (shifted x))
+
+  -- the word that changes, and the others
+  same-word : (j i : ℕ) → i < 256 → place j i ≡ place k x → memberAt added j i ≡ (memberAt old j i || (eqb j k && eqb i x))
+  same-word j i l p =
+      let inside : place k x < length old = omega arith in
+      let e : j ≡ k = omega arith in
+      rw (digit-at added j i l, digit-at old j i l, p, getD-set-same old (place k x) _ 0 inside, or-bit, shifted-bit x i (omega arith), eq-eqb j k e)
+
+  other-word : (j i : ℕ) → i < 256 → (place j i ≡ place k x → ⊥) → memberAt added j i ≡ (memberAt old j i || (eqb j k && eqb i x))
+  other-word j i l n =
+      rw (digit-at added j i l, digit-at old j i l, getD-set-other old (place k x) (place j i) _ 0 n, neither (ℕ-discrete j k))
+      (sym (or-false (bit (getD old (place j i) 0) (i % 64))))
+    where
+      neither : Dec (j ≡ k) → (eqb j k && eqb i x) ≡ false
+      neither (yes e) = rw (ne-eqb i x (λ d. n (omega arith))) (and-false (eqb j k))
+      neither (no d) = rw (ne-eqb j k d)
+
+  pub inserted : Inserted k x old added
+  inserted = record { size = simp length-set; members = λ j i. at j i (decLt i 256) (ℕ-discrete (place j i) (place k x)) }
+    where
+      at : (j i : ℕ) → Dec (i < 256) → Dec (place j i ≡ place k x) → memberAt added j i ≡ (memberAt old j i || (eqb j k && eqb i x))
+      at j i (yes l) (yes p) = same-word j i l p
+      at j i (yes l) (no n) = other-word j i l n
+      at j i (no m) d =
+          rw (no-digit added j i (omega arith), no-digit old j i (omega arith), ne-eqb i x (λ e. m (omega arith))) (sym (and-false (eqb j k)))
 
 -- ---- a fresh row
 zero-at : (n p : ℕ) → _≡_ {A = ℕ} (getD (replicate n 0) p 0) 0

@@ -1,9 +1,9 @@
 -- The members of what the functions of the crate make.
 use mathlib.Core.Path.{_≡_, refl, sym, ap, _∙_}
-use mathlib.Core.Bool.{Bool, true, false, not, cond, _&&_, _||_}
+use mathlib.Core.Bool.{Bool, true, false, not, cond, _&&_, _||_, and-true}
 use mathlib.Core.Logic.{_⊎_, inl, inr}
 use mathlib.Core.Option.{some, none}
-use Prim.Native.Nat.{ℕ, zero, suc, _+_, _-_, _*_, _/_, _%_, _^_, _<_}
+use Prim.Native.Nat.{ℕ, zero, suc, _+_, _-_, _*_, _/_, _%_, _^_, _<_, _≤_}
 use native.Mathlib.Nat.{mod-lt, zero-lt-suc, one-mul}
 use native.Mathlib.Decide.{ℕ-discrete, decLt}
 use native.Mathlib.Omega.{arith}
@@ -16,7 +16,7 @@ use Rattle.model.specs.Lists.{lowest}
 use Rattle.model.proofs.Laws.{none-lowest, lowest-is, below-suc}
 use Rattle.state_set.specs.Member.{bit, member, wordAt}
 use Rattle.state_set.specs.declared.StateSet.{StateSet}
-use Rattle.state_set.proofs.Digits.{zero-bit, and-bit, or-bit, not-bit, power-bit, ones-bit, trailing-lt, trailing-hit, trailing-below}
+use Rattle.state_set.proofs.Digits.{zero-bit, and-bit, or-bit, not-bit, power-bit, ones-bit, trailing-lt, trailing-hit, trailing-below, less-bit}
 
 abbrev pub four : ℕ → ℕ → ℕ → ℕ → StateSet
 four a b c d = record { w0 = a; w1 = b; w2 = c; w3 = d }
@@ -37,6 +37,17 @@ module _ (f : ℕ → ℕ) (ends : (k : ℕ) → f (suc (suc (suc (suc k)))) ≡
 
 low : (i : ℕ) → i % 64 < 64
 low i = mod-lt i (zero-lt-suc 63)
+
+-- no number from 256 on is in a set
+past : (s : StateSet) (k : ℕ) → wordAt s (suc (suc (suc (suc k)))) ≡ 0
+unfolding wordAt
+past s k = refl
+
+pub no-member : (s : StateSet) (i : ℕ) → 256 ≤ i → member s i ≡ false
+unfolding member
+no-member s i l =
+    let high : i / 64 ≡ suc (suc (suc (suc (i / 64 - 4)))) = omega arith in
+    ap (λ (k : ℕ). bit (wordAt s k) (i % 64)) high ∙ ap (λ (w : ℕ). bit w (i % 64)) (past s (i / 64 - 4)) ∙ zero-bit (i % 64)
 
 -- ---- the constants
 pub empty-member : (i : ℕ) → member (four 0 0 0 0) i ≡ false
@@ -113,11 +124,17 @@ eqb-iff a b c d f g = elim (ℕ-discrete a b) [
 ]
 
 -- what the code shifts for state x
-abbrev shifted : ℕ → ℕ
+abbrev pub shifted : ℕ → ℕ
 shifted x = (1 * 2 ^ (x % 64)) % 2 ^ 64
 
 shifted-is : (x : ℕ) → shifted x ≡ 2 ^ (x % 64)
 shifted-is x = shl-exact 1 (x % 64) 64 (lit< tt) (omega (arith, low x)) ∙ one-mul (2 ^ (x % 64))
+
+-- its digits, in the word of state x
+pub shifted-bit : (x i : ℕ) → i / 64 ≡ x / 64 → bit (shifted x) (i % 64) ≡ eqb i x
+shifted-bit x i d =
+    ap (λ (w : ℕ). bit w (i % 64)) (shifted-is x) ∙ power-bit (x % 64) (i % 64)
+    ∙ eqb-iff (i % 64) (x % 64) i x (λ h. omega arith) (λ h. omega arith)
 
 -- word q is v, and the others are 0
 abbrev wordOf : ℕ → ℕ → ℕ → ℕ
@@ -136,8 +153,7 @@ single-member q x l d i =
 
     go : Dec (i / 64 ≡ q) → bit (pick (eqb (i / 64) q)) (i % 64) ≡ eqb i x
     go (yes p) =
-        ap (λ (t : Bool). bit (pick t) (i % 64)) (eq-eqb (i / 64) q p) ∙ ap (λ (w : ℕ). bit w (i % 64)) (shifted-is x)
-        ∙ power-bit (x % 64) (i % 64) ∙ eqb-iff (i % 64) (x % 64) i x (λ h. omega arith) (λ h. omega arith)
+        ap (λ (t : Bool). bit (pick t) (i % 64)) (eq-eqb (i / 64) q p) ∙ shifted-bit x i (p ∙ sym d)
     go (no p) =
         ap (λ (t : Bool). bit (pick t) (i % 64)) (ne-eqb (i / 64) q p) ∙ zero-bit (i % 64) ∙ sym (ne-eqb i x (λ h. p (omega arith)))
 
@@ -192,6 +208,32 @@ module _ (s : StateSet) where
         | yes lower ↦ ap (λ (v : ℕ). bit v (j % 64)) (z (j / 64) lower) ∙ zero-bit (j % 64)
         | no m ↦ at j (omega (arith, t-lt)) ∙ trailing-below 64 w (j % 64) (omega (arith, t-lt))
       ]
+
+  -- word q, which is w, without its lowest digit
+  abbrev wordLess : ℕ → ℕ → ℕ → ℕ
+  wordLess q w k = cond (eqb k q) (bitAnd w (w - 1)) (wordAt s k)
+
+  pub without-lowest-at : (q w : ℕ) → q < 4 → wordAt s q ≡ w → w < 2 ^ 64 → 0 < w → Blank s q → (r : ℕ) → some r ≡ lowest (member s) 256
+      → (i : ℕ) → member (four (wordLess q w 0) (wordLess q w 1) (wordLess q w 2) (wordLess q w 3)) i ≡ (member s i && not (eqb i r))
+  unfolding member wordAt
+  without-lowest-at q w l e h p z r g i =
+      members (wordLess q w) (λ k. ap (λ (t : Bool). cond t (bitAnd w (w - 1)) 0) (ne-eqb (suc (suc (suc (suc k)))) q (λ d. omega arith))) i
+      ∙ go (ℕ-discrete (i / 64) q)
+    where
+      t-lt : trailingZeros 64 w < 64
+      t-lt = trailing-lt 64 w h p
+
+      r-is : r ≡ q * 64 + trailingZeros 64 w
+      r-is = let found = lowest-at q (q * 64 + trailingZeros 64 w) w l e h p z refl in cc (g, found)
+
+      go : Dec (i / 64 ≡ q) → bit (wordLess q w (i / 64)) (i % 64) ≡ (bit (wordAt s (i / 64)) (i % 64) && not (eqb i r))
+      go (yes d) =
+          let same : eqb (i % 64) (trailingZeros 64 w) ≡ eqb i r =
+          eqb-iff (i % 64) (trailingZeros 64 w) i r (λ x. omega (arith, r-is)) (λ x. omega (arith, r-is, t-lt)) in
+          rw (eq-eqb (i / 64) q d, and-bit w (w - 1) (i % 64), less-bit 64 w (i % 64) h p, same, d, e)
+      go (no d) =
+          let other : eqb i r ≡ false = ne-eqb i r (λ x. d (omega (arith, r-is, t-lt))) in
+          rw (ne-eqb (i / 64) q d, other) (sym (and-true (bit (wordAt s (i / 64)) (i % 64))))
 
   pub lowest-missing : s .w0 ≡ 0 → s .w1 ≡ 0 → s .w2 ≡ 0 → s .w3 ≡ 0 → none ≡ lowest (member s) 256
   unfolding member wordAt

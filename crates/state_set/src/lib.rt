@@ -1,13 +1,14 @@
 // Sets of states, one bit for each of 256, and rows of such sets.
 ghost use mathlib.Core.Path.{_≡_};
 ghost use mathlib.Core.Bool.{not, _&&_, _||_};
+ghost use mathlib.Core.Option.{some};
 ghost use Prim.Native.Nat.{ℕ, _+_, _*_, _<_};
 ghost use lib.Count.{trailingZeros};
 ghost use lib.Dec.{eqb};
 ghost use lib.ListN.{length};
 ghost use Rattle.model.specs.Lists.{lowest};
-ghost use Rattle.state_set.specs.Member.{member, wordAt, stateFound};
-ghost use Rattle.state_set.specs.Rows.{setAt, Stored, Inserted};
+ghost use Rattle.state_set.specs.Member.{member, stateFound};
+ghost use Rattle.state_set.specs.Rows.{setAt, memberAt, Stored, Inserted};
 
 // A word of the set of all states.
 pub const FULL_WORD: u64 = 0xffff_ffff_ffff_ffff;
@@ -96,28 +97,6 @@ pub fn without(a: StateSet, b: StateSet) -> StateSet
     }
 }
 
-// Word k of a set.
-fn word(a: StateSet, k: u8) -> u64
-    requires { ⌜ k < 4 ⌝ }
-    ensures { λ r. ⌜ r ≡ wordAt a k ⌝ }
-{
-    if k == 0 {
-        a.w0
-    } else if k == 1 {
-        a.w1
-    } else if k == 2 {
-        a.w2
-    } else {
-        a.w3
-    }
-}
-
-pub fn contains(a: StateSet, state: u8) -> bool
-    ensures { λ r. ⌜ r ≡ member a state ⌝ }
-{
-    (word(a, state / 64) >> (state % 64)) % 2 == 1
-}
-
 // The lowest state of a word that is not 0; `first` is the state of its first bit.
 fn lowest_in(word: u64, first: u8) -> u8
     requires { ⌜ (0 < word) × (first < 193) ⌝ }
@@ -142,6 +121,23 @@ pub fn lowest(a: StateSet) -> Found
         return Found::State(lowest_in(a.w3, 192));
     }
     Found::Nothing
+}
+
+// The set without its lowest state.
+pub fn without_lowest(a: StateSet) -> StateSet
+    ensures { λ r. ⌜ ((s : ℕ) → some s ≡ lowest (member a) 256 → (i : ℕ) → member r i ≡ (member a i && not (eqb i s))) ⌝ }
+{
+    let mut rest = a;
+    if rest.w0 != 0 {
+        rest.w0 = rest.w0 & (rest.w0 - 1);
+    } else if rest.w1 != 0 {
+        rest.w1 = rest.w1 & (rest.w1 - 1);
+    } else if rest.w2 != 0 {
+        rest.w2 = rest.w2 & (rest.w2 - 1);
+    } else if rest.w3 != 0 {
+        rest.w3 = rest.w3 & (rest.w3 - 1);
+    }
+    rest
 }
 
 // Set k of a row.
@@ -169,11 +165,20 @@ pub fn store(row: &mut [u64], k: usize, a: StateSet)
     row[at + 3] = a.w3;
 }
 
-// Adds a state to set k of a row.
+// The state is in set k of a row.
+pub fn contains_at(row: &[u64], k: usize, state: u8) -> bool
+    requires { ⌜ k * 4 + 3 < length (now row) ⌝ }
+    ensures { λ r. ⌜ r ≡ memberAt (now (row .entry)) k state ⌝ }
+{
+    let at = k * 4 + (state / 64) as usize;
+    (row[at] >> (state % 64)) % 2 == 1
+}
+
+// Adds a state to set k of a row, which changes one word.
 pub fn insert(row: &mut [u64], k: usize, state: u8)
     requires { ⌜ k * 4 + 3 < length (now row) ⌝ }
     ensures { λ _. ⌜ Inserted k state (now (row .entry)) (now (row .exit)) ⌝ }
 {
-    let a = load(row, k);
-    store(row, k, join(a, single(state)));
+    let at = k * 4 + (state / 64) as usize;
+    row[at] = row[at] | 1u64 << (state % 64);
 }

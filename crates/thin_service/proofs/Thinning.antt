@@ -1,6 +1,6 @@
 -- Thin, by its ways out.
 use Prim.Native.Nat.{ℕ}
-use mathlib.Core.Path.{_≡_}
+use mathlib.Core.Path.{_≡_, ap, sym, subst}
 use mathlib.Core.List.{List}
 use Rattle.model.specs.declared.Refusal as D
 use Rattle.model.specs.Cases.{tabled}
@@ -9,23 +9,37 @@ use Rattle.model.specs.Text.{system}
 use Rattle.model.specs.Services as Services
 use Rattle.model.specs.Services.{asFarAs12}
 use Rattle.reader.specs.declared.Tables.{Tables}
-use Rattle.reader.proofs.Telling.{told-events}
+use Rattle.reader.specs.Told.{systemOf}
+use Rattle.model.specs.TransitionSystem.{TransitionSystem}
 use Rattle.irredundant.specs.declared.Kept.{Kept}
-use Rattle.irredundant.specs.Kept.{Thins}
+use Rattle.irredundant.specs.declared.Reduction.{Reduction}
+use Rattle.irredundant.specs.declared.Reduction.the-variants as R
+use Rattle.irredundant.specs.Kept.{ThinsTo, Thins}
 use Rattle.thin_service.specs.declared.Thinned.the-variants as T
 use Rattle.thin_service.specs.Answers.{thinned, numberedSet}
-use Rattle.stages.specs.Stages.{Judged}
-use Rattle.stages.proofs.Stages.{past-12}
+use Rattle.stages.specs.Stages.{Past10}
+use Rattle.stages.proofs.Stages.{countsOf, covered-12, refused-cover}
 
 pub thin-refused : (s : List ℕ) (why : D.Refusal) → asFarAs12 s ≡ refused (tabled why) → thinned (T.Refused why) ≡ numberedSet (Services.thin s)
 unfolding Services.thin thinned numberedSet
 thin-refused s why e = rw e
 
-pub kept : {s : List ℕ} {p : Tables} {pre post sets excited : List ℕ} (j : Judged s p pre post sets excited) (r : Kept)
-    → Thins pre sets excited (p .machines) (p .events) r
-    → thinned (T.Kept (r .machines) (r .size)) ≡ numberedSet (Services.thin s)
-unfolding Services.thin thinned numberedSet
-kept {post = post} j r t =
-    let h = j .held in
-    let k = t .keeps (system (h .value)) (h .value .machines) post (j .cover) (h .told .tells-machines .counted) (told-events (h .told)) in
-    rw (past-12 j, k .machines, k .size)
+module _ {s : List ℕ} {p : Tables} {pre post excited : List ℕ} (k : Past10 s p pre post excited) {r : Reduction}
+    (t : Thins (countsOf p) pre (p .place) excited r) where
+  -- what the rows say of 11 and 12 and of thinning is what the model says
+  told : ThinsTo (system (k .held .value)) (k .held .value .machines) r
+  unfolding systemOf
+  told =
+      let h = k .held .told in
+      t .thins _ _ post (k .cover) (sym (ap (λ (x : TransitionSystem). x .states) (h .tells-system))) (sym (ap (λ (x : TransitionSystem). x .events) (h .tells-system)))
+      (sym (h .tells-machines .counted))
+
+  pub refused-by-cover : {why : D.Refusal} → r ≡ R.Refused why → thinned (T.Refused why) ≡ numberedSet (Services.thin s)
+  unfolding ThinsTo
+  refused-by-cover {why} e = thin-refused s why (refused-cover k why (subst (ThinsTo (system (k .held .value)) (k .held .value .machines)) e told))
+
+  pub kept : {x : Kept} → r ≡ R.To x → thinned (T.Kept (x .machines) (x .size)) ≡ numberedSet (Services.thin s)
+  unfolding Services.thin thinned numberedSet ThinsTo
+  kept e =
+      let (covered, keeps) = subst (ThinsTo (system (k .held .value)) (k .held .value .machines)) e told in
+      rw (covered-12 k covered, keeps .machines, keeps .size)

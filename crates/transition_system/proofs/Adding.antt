@@ -16,10 +16,8 @@ use Rattle.reader.specs.declared.Verdict.the-variants.{Refused, Passed}
 use Rattle.reader.specs.Tables.{verdictRefusal}
 use Rattle.reader.specs.Told.{entry, transitionAt, firstTransitions}
 use Rattle.reader.proofs.Fronts.{exists-snoc, front-length}
-use Rattle.state_set.specs.declared.StateSet.{StateSet}
-use Rattle.state_set.specs.Member.{member}
-use Rattle.state_set.specs.Rows.{setAt, memberAt, Inserted}
-use Rattle.transition_system.specs.Sets.{Excitations, Successors, SetsOf, InRows, joins}
+use Rattle.state_set.specs.Rows.{memberAt, Inserted}
+use Rattle.transition_system.specs.Sets.{Excitations, Has, Successors, SetsOf, InRows, joins}
 
 -- ---- one transition more in the sets
 eqb-comm : (a b : ℕ) → eqb a b ≡ eqb b a
@@ -46,10 +44,11 @@ module _ {ts : List Transition} (t : Transition) {old new : List ℕ} where
 
   follows-more : Successors ts old → Inserted (t .source) (t .target) old new → Successors (ts ++ (t ∷ [])) new
   unfolding joins
-  follows-more x i = record { size = i .size ∙ x .size; members = at }
+  follows-more x i = record { members = at }
     where
-      at : (s u : ℕ) → s < 256 → memberAt new s u ≡ exists (joins s u) (ts ++ (t ∷ []))
-      at s u l = rw (exists-snoc (joins s u) ts t, i .members s u, x .members s u l, eqb-comm (t .source) s, eqb-comm (t .target) u)
+      at : (s u : ℕ) → Has new s → memberAt new s u ≡ exists (joins s u) (ts ++ (t ∷ []))
+      at s u l =
+          rw (exists-snoc (joins s u) ts t, i .members s u, x .members s u (rw (i .size) at l), eqb-comm (t .source) s, eqb-comm (t .target) u)
 
 -- ---- what adding transition k of the rows answers
 abbrev Added : List ℕ → List ℕ → List ℕ → ℕ → Verdict → List ℕ → List ℕ → Type 0
@@ -57,13 +56,12 @@ Added source event target k v excited successors =
     (verdictRefusal v ≡ transitionRefusal (firstTransitions source event target k) (transitionAt source event target k))
     × (verdictRefusal v ≡ none → SetsOf (firstTransitions source event target (suc k)) excited successors)
 
--- what `wide`, `load` and `contains` gave, in that order
-pub tested : (row : List ℕ) (s : ℕ) {e w : ℕ} {set : StateSet} {r : Bool} → w ≡ e → set ≡ setAt row w → r ≡ member set s → r ≡ memberAt row e s
-unfolding memberAt
-tested row s p q h = h ∙ ap (λ (x : StateSet). member x s) (q ∙ ap (setAt row) p)
+-- what `wide` and `contains_at` gave
+pub tested : (row : List ℕ) (s : ℕ) {e w : ℕ} {r : Bool} → w ≡ e → r ≡ memberAt row w s → r ≡ memberAt row e s
+tested row s p h = h ∙ ap (λ (e : ℕ). memberAt row e s) p
 
 -- transition k of the rows
-module _ {source event target : List ℕ} {k : ℕ} (rows : InRows source event target k) where
+module _ {source event target successors₀ : List ℕ} {k : ℕ} (rows : InRows source event target successors₀ k) where
   pub stands : {excited successors : List ℕ} → entry source k ≡ entry target k
       → Added source event target k (Refused (SelfLoop (k + 3))) excited successors
   unfolding verdictRefusal tabled transitionRefusal
@@ -72,7 +70,7 @@ module _ {source event target : List ℕ} {k : ℕ} (rows : InRows source event 
 
   -- 4 has passed it. The sets are those of the transitions before it, and r says whether one of these leads from its source by its event
   module _
-      {excited₀ successors₀ : List ℕ} {r : Bool}
+      {excited₀ : List ℕ} {r : Bool}
       (sets : SetsOf (firstTransitions source event target k) excited₀ successors₀)
       (moves : entry source k ≡ entry target k → ⊥)
       (test : r ≡ memberAt excited₀ (entry event k) (entry source k)) where

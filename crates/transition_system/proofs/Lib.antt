@@ -8,6 +8,10 @@ pub mod Adding
 pub mod Scanning
 -- 6
 pub mod Unused
+-- how many states a search has still to do
+pub mod Counting
+-- the states to which a set of states leads
+pub mod Images
 -- the search for the reached states, turn by turn
 pub mod Worklist
 -- the lowest state that the search leaves out

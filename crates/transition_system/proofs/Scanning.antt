@@ -5,6 +5,7 @@ use native.Mathlib.Omega.{arith}
 use mathlib.Core.Path.{_≡_, refl, _∙_}
 use mathlib.Core.List.{List, [], _∷_, _++_, append-assoc, append-nil}
 use mathlib.Core.Option.{Option, none, some, Option·some-ne-none, orElse}
+use lib.ListN.{length}
 use Rattle.model.specs.declared.Refusal as D
 use Rattle.model.specs.Refusal.{Refusal}
 use Rattle.model.specs.TransitionSystem.{Transition, transitionRefusal, transitionsRefusal}
@@ -13,7 +14,7 @@ use Rattle.reader.specs.declared.Verdict.the-variants.{Refused, Passed}
 use Rattle.reader.specs.Tables.{verdictRefusal}
 use Rattle.reader.specs.Told.{transitionAt, firstTransitions}
 use Rattle.reader.proofs.Fronts.{front-more, front-rest}
-use Rattle.transition_system.specs.Sets.{SetsOf}
+use Rattle.transition_system.specs.Sets.{SetsOf, InRows}
 
 orElse-assoc : {A : Type 0} (a b c : Option A) → orElse a (orElse b c) ≡ orElse (orElse a b) c
 unfolding orElse
@@ -28,8 +29,10 @@ refusal-append before (x ∷ xs) ys =
     rw (refusal-append (before ++ (x ∷ [])) xs ys, append-assoc before (x ∷ []) xs)
     (orElse-assoc (transitionRefusal before x) (transitionsRefusal (before ++ (x ∷ [])) xs) (transitionsRefusal (before ++ (x ∷ xs)) ys))
 
-pub record SoFar (source event target : List ℕ) (n k : ℕ) (excited successors : List ℕ) : Type 0 where
+-- `words`: the length of the row of successors
+pub record SoFar (source event target : List ℕ) (n words k : ℕ) (excited successors : List ℕ) : Type 0 where
   pub most : k ≤ n
+  pub size : length successors ≡ words
   pub passes : transitionsRefusal [] (firstTransitions source event target k) ≡ none
   pub sets : SetsOf (firstTransitions source event target k) excited successors
 
@@ -39,16 +42,30 @@ Scanned source event target n v excited successors =
     × (verdictRefusal v ≡ none → SetsOf (firstTransitions source event target n) excited successors)
 
 pub scan-start : {source event target : List ℕ} {n : ℕ} {excited successors : List ℕ} → SetsOf [] excited successors
-    → SoFar source event target n 0 excited successors
+    → SoFar source event target n (length successors) 0 excited successors
 unfolding firstTransitions transitionsRefusal
-scan-start s = record { most = omega arith; passes = refl; sets = s }
+scan-start s = record { most = omega arith; size = refl; passes = refl; sets = s }
 
-module _ {source event target : List ℕ} {n k : ℕ} {excited successors : List ℕ} (s : SoFar source event target n k excited successors) where
+module _
+    {source event target : List ℕ} {n words k : ℕ} {excited successors : List ℕ}
+    (s : SoFar source event target n words k excited successors) where
   pub scan-end : n ≤ k → Scanned source event target n Passed excited successors
   unfolding verdictRefusal
   scan-end l =
       let e : k ≡ n = omega arith in
       (rw (← e, s .passes), λ _. rw (← e) (s .sets))
+
+  -- the source of transition k still has a set of successors
+  pub in-rows : {row : List ℕ} → words ≡ length row → InRows source event target row k → InRows source event target successors k
+  in-rows e r =
+      record {
+        low = r .low;
+        sources = r .sources;
+        events = r .events;
+        targets = r .targets;
+        label = r .label;
+        from = omega (arith, r .from, s .size);
+      }
 
   -- transition k and those after it
   after : (ys : List Transition) → transitionsRefusal [] (firstTransitions source event target k ++ (transitionAt source event target k ∷ ys))
@@ -70,11 +87,12 @@ module _ {source event target : List ℕ} {n k : ℕ} {excited successors : List
   pub scan-more : {v : Verdict} {old new : List ℕ} → k < n → v ≡ Passed
       → verdictRefusal v ≡ transitionRefusal (firstTransitions source event target k) (transitionAt source event target k)
       → (verdictRefusal v ≡ none → SetsOf (firstTransitions source event target (suc k)) old new)
-      → SoFar source event target n (k + 1) old new
+      → length new ≡ length successors → SoFar source event target n words (k + 1) old new
   unfolding verdictRefusal orElse transitionsRefusal
-  scan-more l e r t =
+  scan-more l e r t z =
       record {
         most = omega arith;
+        size = z ∙ s .size;
         passes = rw (front-more source event target k, after [], ← r, e);
         sets = rw (add-one k) (t (rw e));
       }

@@ -1,15 +1,18 @@
 -- 4 to 7 together: what the parts of the check answer, and what the whole then answers.
-use Prim.Native.Nat.{ℕ, _<_, _≤_}
+use Prim.Native.Nat.{ℕ, _*_, _<_, _≤_}
+use native.Mathlib.Omega.{arith}
 use mathlib.Core.Path.{_≡_, refl, sym, ap, _∙_}
 use mathlib.Core.List.{List, []}
 use mathlib.Core.Option.{none, Option·some-ne-none, orElse}
-use lib.ListN.{replicate, length-replicate}
+use lib.Dec.{T, eqb, eqb→eq}
+use lib.ListN.{length, replicate}
 use Rattle.model.specs.declared.Refusal as D
 use Rattle.model.specs.declared.Refusal.the-variants.{UnusedEvent, Unreachable}
 use Rattle.model.specs.Cases.{tabled}
 use Rattle.model.specs.Lists.{exists}
 use Rattle.model.specs.TransitionSystem.{Transition, TransitionSystem, transitionsRefusal, unusedEvent, unreachableState, systemRefusal}
 use Rattle.model.proofs.Bounds.{Within}
+use Rattle.model.proofs.Laws.{and-r, exists-elim}
 use Rattle.reader.specs.declared.Tables.{Tables}
 use Rattle.reader.specs.declared.Verdict.{Verdict}
 use Rattle.reader.specs.declared.Verdict.the-variants.{Refused, Passed}
@@ -18,13 +21,14 @@ use Rattle.reader.specs.Tables.{verdictRefusal}
 use Rattle.reader.specs.Told.{firstTransitions, systemOf, below}
 use Rattle.reader.proofs.Searches.{below-in, below-out}
 use Rattle.reader.proofs.Fronts.{within-tables}
+use Rattle.state_set.specs.Rows.{memberAt}
 use Rattle.state_set.proofs.Rows.{empty-row}
-use Rattle.transition_system.specs.Sets.{Excitations, Successors, SetsOf}
+use Rattle.transition_system.specs.Sets.{Excitations, joins, Has, Successors, Closed, SetsOf}
 
 -- a fresh row has the successors of no transition
-pub no-successors : Successors [] (replicate 1024 0)
+pub no-successors : (n : ℕ) → Successors [] (replicate n 0)
 unfolding exists
-no-successors = record { size = length-replicate {A = ℕ} 1024 0; members = λ s u l. empty-row 1024 s u }
+no-successors n = record { members = λ s u l. empty-row n s u }
 
 -- the transitions that the tables hold
 abbrev held : Tables → List Transition
@@ -61,6 +65,17 @@ module _
     sets : SetsOf (held p) excited successors
     unfolding verdictRefusal
     sets = s (ap verdictRefusal e)
+
+    -- a transition leads to a declared state
+    pub closed : p .states * 4 ≤ length successors → Closed successors
+    unfolding systemOf joins
+    closed l = record { inside = inside }
+      where
+        inside : (s u : ℕ) → Has successors s → T (memberAt successors s u) → Has successors u
+        inside s u k m =
+            let (t, i, q) = exists-elim (joins s u) (held p) (rw (sets .follows .members s u k) at m) in
+            let target : t .target ≡ u = eqb→eq (t .target) u (and-r (eqb (t .source) s) (eqb (t .target) u) q) in
+            omega (arith, within-tables p b .target t i)
 
     unused-is : (x : ℕ) → Unused excited (p .events) x → below (p .events) x ≡ unusedEvent (systemOf p)
     unfolding systemOf

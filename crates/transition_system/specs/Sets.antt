@@ -1,13 +1,18 @@
 -- What rows of sets tell of transitions.
-use Prim.Native.Nat.{ℕ, _<_}
+use Prim.Native.Nat.{ℕ, _+_, _*_, _<_}
 use mathlib.Core.Path.{_≡_}
 use mathlib.Core.Bool.{Bool, _&&_}
-use mathlib.Core.List.{List}
-use lib.Dec.{eqb}
+use mathlib.Core.List.{List, []}
+use lib.Dec.{T, eqb}
 use lib.ListN.{length}
 use Rattle.model.specs.Lists.{exists}
 use Rattle.model.specs.TransitionSystem.{Transition, leads}
+use Rattle.state_set.specs.declared.StateSet.{StateSet}
+use Rattle.state_set.specs.Member.{member}
 use Rattle.state_set.specs.Rows.{memberAt}
+use Rattle.reader.specs.declared.Counts.{Counts}
+use Rattle.reader.specs.declared.Tables.{Tables}
+use Rattle.reader.specs.Tables.{tablesIn}
 use Rattle.reader.specs.Told.{entry}
 
 -- set e has the states that a transition of the event e leaves: its excitation set
@@ -18,19 +23,36 @@ pub record Excitations (ts : List Transition) (row : List ℕ) : Type 0 where
 unfoldable pub joins : ℕ → ℕ → Transition → Bool
 joins s u t = eqb (t .source) s && eqb (t .target) u
 
--- set s has the states to which a transition leads from s
+-- the row has a set s
+abbrev pub Has : List ℕ → ℕ → Type 0
+Has row s = s * 4 + 3 < length row
+
+-- each of its sets s has the states to which a transition leads from s
 pub record Successors (ts : List Transition) (row : List ℕ) : Type 0 where
-  pub size : length row ≡ 1024
-  pub members : (s u : ℕ) → s < 256 → memberAt row s u ≡ exists (joins s u) ts
+  pub members : (s u : ℕ) → Has row s → memberAt row s u ≡ exists (joins s u) ts
+
+-- each state in one of its sets has a set there
+pub record Closed (row : List ℕ) : Type 0 where
+  pub inside : (s u : ℕ) → Has row s → T (memberAt row s u) → Has row u
+
+-- `set` has the states to which one of the states `from` leads: those in its set
+pub record Image (row : List ℕ) (from set : StateSet) : Type 0 where
+  pub into : (s u : ℕ) → T (member from s) → T (memberAt row s u) → T (member set u)
+  pub only : (u : ℕ) → T (member set u) → (s : ℕ) × T (member from s) × T (memberAt row s u)
 
 pub record SetsOf (ts : List Transition) (excited successors : List ℕ) : Type 0 where
   pub excitations : Excitations ts excited
   pub follows : Successors ts successors
 
--- the rows have a transition k, of one of 64 events
-pub record InRows (source event target : List ℕ) (k : ℕ) : Type 0 where
+-- the rows have a transition k, of one of 64 events, and its source has a set of successors
+pub record InRows (source event target successors : List ℕ) (k : ℕ) : Type 0 where
   pub low : k < 1024
   pub sources : k < length source
   pub events : k < length event
   pub targets : k < length target
   pub label : entry event k < 64
+  pub from : Has successors (entry source k)
+
+-- the tables of a transition system alone
+abbrev pub systemRows : Counts → List ℕ → List ℕ → List ℕ → Tables
+systemRows c source event target = tablesIn c [] [] source event target [] [] []

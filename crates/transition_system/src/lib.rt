@@ -2,7 +2,8 @@
 ghost use mathlib.Core.Path.{_≡_};
 ghost use mathlib.Core.List.{List, []};
 ghost use mathlib.Core.Option.{none};
-ghost use Prim.Native.Nat.{ℕ, suc, _<_, _≤_};
+ghost use Prim.Native.Nat.{ℕ, suc, _*_, _<_, _≤_};
+ghost use lib.Dec.{T};
 ghost use lib.ListN.{length};
 ghost use Rattle.model.specs.Lists.{index};
 ghost use Rattle.model.specs.TransitionSystem.{TransitionSystem, leads, transitionRefusal, transitionsRefusal, unusedEvent, unreachableState, systemRefusal};
@@ -10,27 +11,34 @@ ghost use Rattle.model.proofs.Bounds.{Within};
 ghost use Rattle.reader.specs.Tables.{verdictRefusal};
 ghost use Rattle.reader.specs.Told.{transitionAt, firstTransitions, systemOf, below};
 ghost use Rattle.reader.specs.Bounded.{Bounded};
-ghost use Rattle.transition_system.specs.Sets.{Excitations, Successors, SetsOf, InRows};
+ghost use Rattle.state_set.specs.Member.{member};
+ghost use Rattle.transition_system.specs.Sets.{Excitations, Has, Successors, Closed, Image, SetsOf, InRows, systemRows};
 ghost use Rattle.transition_system.specs.Reaches.{Reaches};
 use model::Refusal;
-use reader::Tables;
+use reader::Counts;
 use reader::Verdict;
 use reader::narrow;
 use reader::wide;
 use state_set::Found;
 use state_set::StateSet;
-use state_set::contains;
+use state_set::contains_at;
 use state_set::insert;
 use state_set::join;
 use state_set::load;
 use state_set::lowest;
 use state_set::single;
 use state_set::without;
+use state_set::without_lowest;
 
 // Rows of sets have four words for each set: the excitation set of each event, the successors of each state.
 pub const EXCITATION_WORDS: usize = 256;
 
 const SUCCESSOR_WORDS: usize = 1024;
+
+// A system of at most FEW_STATES states is checked with a shorter row of successors, which takes less time to clear.
+const FEW_STATES: usize = 16;
+
+const FEW_WORDS: usize = 64;
 
 // The first of n transitions that leads from state s by event e; n if there is none.
 fn first_leading<'a>(source: &'a [u8], event: &'a [u8], n: usize, s: u8, e: u8) -> usize
@@ -58,7 +66,7 @@ fn add_transition<'a>(
     excited: &mut [u64],
     successors: &mut [u64],
 ) -> Verdict
-    requires { ⌜ InRows (now source) (now event) (now target) k ⌝ }
+    requires { ⌜ InRows (now source) (now event) (now target) (now successors) k ⌝ }
     requires { ⌜ SetsOf (firstTransitions (now source) (now event) (now target) k) (now excited) (now successors) ⌝ }
     ensures { λ r. ⌜ verdictRefusal r ≡ transitionRefusal (firstTransitions (now (source .entry)) (now (event .entry)) (now (target .entry)) k) (transitionAt (now (source .entry)) (now (event .entry)) (now (target .entry)) k) ⌝ }
     ensures { λ r. ⌜ (verdictRefusal r ≡ none → SetsOf (firstTransitions (now (source .entry)) (now (event .entry)) (now (target .entry)) (suc k)) (now (excited .exit)) (now (successors .exit))) ⌝ }
@@ -71,7 +79,7 @@ fn add_transition<'a>(
     if s == t {
         return Verdict::Refused(Refusal::SelfLoop { line });
     }
-    if contains(load(excited, wide(e)), s) {
+    if contains_at(excited, wide(e), s) {
         let earlier = first_leading(source, event, k, s, e) + 3;
         return Verdict::Refused(Refusal::Nondeterministic { line, earlier });
     }
@@ -89,7 +97,7 @@ fn add_transitions<'a>(
     excited: &mut [u64],
     successors: &mut [u64],
 ) -> Verdict
-    requires { ⌜ ((k : ℕ) → k < n → InRows (now source) (now event) (now target) k) ⌝ }
+    requires { ⌜ ((k : ℕ) → k < n → InRows (now source) (now event) (now target) (now successors) k) ⌝ }
     requires { ⌜ SetsOf [] (now excited) (now successors) ⌝ }
     ensures { λ r. ⌜ verdictRefusal r ≡ transitionsRefusal [] (firstTransitions (now (source .entry)) (now (event .entry)) (now (target .entry)) n) ⌝ }
     ensures { λ r. ⌜ (verdictRefusal r ≡ none → SetsOf (firstTransitions (now (source .entry)) (now (event .entry)) (now (target .entry)) n) (now (excited .exit)) (now (successors .exit))) ⌝ }
@@ -120,26 +128,42 @@ fn unused_event(excited: &[u64], events: usize) -> usize
     e
 }
 
-// The states that are reached, from a worklist of those whose successors are not yet in.
+// The states to which one of these states leads.
+fn successors_of(successors: &[u64], states: StateSet) -> StateSet
+    requires { ⌜ ((s : ℕ) → T (member states s) → Has (now successors) s) ⌝ }
+    ensures { λ r. ⌜ Image (now (successors .entry)) states r ⌝ }
+{
+    let mut rest = states;
+    let mut all = StateSet::EMPTY;
+    loop {
+        let Found::State(s) = lowest(rest) else {
+            return all;
+        };
+        rest = without_lowest(rest);
+        all = join(all, load(successors, wide(s)));
+    }
+}
+
+// The states that are reached. Those that wait are followed together, so that none of them has to wait for what another finds.
 fn reached(successors: &[u64], initial: u8) -> StateSet
-    requires { ⌜ length (now successors) ≡ 1024 ⌝ }
+    requires { ⌜ Closed (now successors) × Has (now successors) initial ⌝ }
     ensures { λ r. ⌜ ((ts : TransitionSystem) → ts .initial ≡ initial → Successors (ts .transitions) (now (successors .entry)) → Reaches ts r) ⌝ }
 {
     let mut found = single(initial);
     let mut waiting = single(initial);
     loop {
-        let Found::State(s) = lowest(waiting) else {
+        if let Found::Nothing = lowest(waiting) {
             return found;
-        };
-        let fresh = without(load(successors, wide(s)), found);
-        waiting = join(without(waiting, single(s)), fresh);
+        }
+        let fresh = without(successors_of(successors, waiting), found);
+        waiting = fresh;
         found = join(found, fresh);
     }
 }
 
 // 7: the lowest of n states that is not reached; n if there is none.
 fn unreached_state(successors: &[u64], initial: u8, n: usize) -> usize
-    requires { ⌜ (length (now successors) ≡ 1024) × (n ≤ 256) ⌝ }
+    requires { ⌜ Closed (now successors) × Has (now successors) initial × (n ≤ 256) ⌝ }
     ensures { λ r. ⌜ ((ts : TransitionSystem) → Within ts → ts .states ≡ n → ts .initial ≡ initial → Successors (ts .transitions) (now (successors .entry)) → below n r ≡ unreachableState ts) ⌝ }
 {
     match lowest(without(StateSet::FULL, reached(successors, initial))) {
@@ -151,27 +175,57 @@ fn unreached_state(successors: &[u64], initial: u8, n: usize) -> usize
     }
 }
 
-// 4 to 7 in the paper's order. Passed, `excited` has the excitation set of each event.
-pub fn check_transition_system(p: Tables, excited: &mut [u64]) -> Verdict
-    requires { ⌜ Bounded p × Excitations [] (now excited) ⌝ }
-    ensures { λ r. ⌜ verdictRefusal r ≡ systemRefusal (systemOf p) ⌝ }
-    ensures { λ r. ⌜ (verdictRefusal r ≡ none → Excitations (systemOf p .transitions) (now (excited .exit))) ⌝ }
+// 4 to 7 in the paper's order, with a row of empty sets for the successors.
+fn check_with<'a>(
+    c: Counts,
+    source: &'a [u8],
+    event: &'a [u8],
+    target: &'a [u8],
+    excited: &mut [u64],
+    successors: &mut [u64],
+) -> Verdict
+    requires { ⌜ Bounded (systemRows c (now source) (now event) (now target)) × Excitations [] (now excited) ⌝ }
+    requires { ⌜ (c .transitions ≤ length (now source)) × (c .transitions ≤ length (now event)) × (c .transitions ≤ length (now target)) ⌝ }
+    requires { ⌜ Successors [] (now successors) × (c .states * 4 ≤ length (now successors)) ⌝ }
+    ensures { λ r. ⌜ verdictRefusal r ≡ systemRefusal (systemOf (systemRows c (now (source .entry)) (now (event .entry)) (now (target .entry)))) ⌝ }
+    ensures { λ r. ⌜ (verdictRefusal r ≡ none → Excitations (systemOf (systemRows c (now (source .entry)) (now (event .entry)) (now (target .entry))) .transitions) (now (excited .exit))) ⌝ }
 {
-    let mut successors = [0u64; SUCCESSOR_WORDS];
-    let n = p.transitions;
-    let forks = add_transitions(&p.source, &p.event, &p.target, n, excited, &mut successors);
+    let n = c.transitions;
+    let forks = add_transitions(source, event, target, n, excited, successors);
     if let Verdict::Refused(why) = forks {
         return Verdict::Refused(why);
     }
-    let events = p.events;
-    let event = unused_event(excited, events);
-    if event < events {
-        return Verdict::Refused(Refusal::UnusedEvent { event });
+    let events = c.events;
+    let unused = unused_event(excited, events);
+    if unused < events {
+        return Verdict::Refused(Refusal::UnusedEvent { event: unused });
     }
-    let states = p.states;
-    let state = unreached_state(&successors, narrow(p.initial), states);
+    let states = c.states;
+    let state = unreached_state(successors, narrow(c.initial), states);
     if state < states {
         return Verdict::Refused(Refusal::Unreachable { state });
     }
     Verdict::Passed
+}
+
+// 4 to 7. Passed, `excited` has the excitation set of each event.
+pub fn check_transition_system<'a>(
+    c: Counts,
+    source: &'a [u8],
+    event: &'a [u8],
+    target: &'a [u8],
+    excited: &mut [u64],
+) -> Verdict
+    requires { ⌜ Bounded (systemRows c (now source) (now event) (now target)) × Excitations [] (now excited) ⌝ }
+    requires { ⌜ (c .transitions ≤ length (now source)) × (c .transitions ≤ length (now event)) × (c .transitions ≤ length (now target)) ⌝ }
+    ensures { λ r. ⌜ verdictRefusal r ≡ systemRefusal (systemOf (systemRows c (now (source .entry)) (now (event .entry)) (now (target .entry)))) ⌝ }
+    ensures { λ r. ⌜ (verdictRefusal r ≡ none → Excitations (systemOf (systemRows c (now (source .entry)) (now (event .entry)) (now (target .entry))) .transitions) (now (excited .exit))) ⌝ }
+{
+    if c.states <= FEW_STATES {
+        let mut few = [0u64; FEW_WORDS];
+        check_with(c, source, event, target, excited, &mut few)
+    } else {
+        let mut successors = [0u64; SUCCESSOR_WORDS];
+        check_with(c, source, event, target, excited, &mut successors)
+    }
 }

@@ -1,15 +1,16 @@
 -- The figure of a number: how long it is, and its digits stored one after another.
 use Prim.Native.Nat.{ℕ, _+_, _/_, _%_, _≤_, _<_}
-use native.Mathlib.Numerals.{add-one}
 use native.Mathlib.Omega.{arith}
-use mathlib.Core.Path.{_≡_, refl, ap, subst}
+use mathlib.Core.Path.{_≡_, ap, subst}
 use mathlib.Core.Logic.{_⊎_, inl, inr}
 use mathlib.Core.List.{List}
 use lib.ListN.{length, set}
+use lib.Seq.{set-set}
 use Rattle.model.specs.Bytes.{digits}
 use Rattle.model.proofs.Laws.{order}
 use Rattle.model.proofs.Words.{digits-one, digits-two, digits-three}
 use Rattle.writers.specs.Written.{Writes}
+use Rattle.writers.proofs.Writing.{byte-stored, writes-append}
 
 module _ (n : ℕ) where
   pub length-one : n < 10 → length (digits n) ≡ 1
@@ -29,18 +30,33 @@ module _ (n : ℕ) where
       go (inr l) (inl h) = omega (arith, length-two l h)
       go (inr l) (inr h) = omega (arith, length-three h)
 
-  module _ (out : List ℕ) (at : ℕ) {a : ℕ} where
-    pub stored-one : n < 10 → a ≡ 48 + n → Writes (digits n) at out (at + 1) (set out at a)
-    stored-one h p = rw (digits-one n h) (record { after = refl; bytes-left = ap (set out at) p })
+-- the digits of a figure stored from the front, where a leading zero is overwritten
+module _ (n : ℕ) (out : List ℕ) (at last : ℕ) {a b d : ℕ} where
+  pub figure-stored : n ≤ 999 → last + 1 ≡ length (digits n) → a ≡ 48 + n / 100 → b ≡ 48 + n / 10 % 10 → d ≡ 48 + n % 10
+      → Writes (digits n) at out (at + last + 1) (set (set (set out at a) (at + last / 2) b) (at + last) d)
+  figure-stored m k p q r = go (order n 10) (order n 100)
+    where
+      one : n < 10 → Writes (digits n) at out (at + last + 1) (set (set (set out at a) (at + last / 2) b) (at + last) d)
+      one h =
+          let y : at + last / 2 ≡ at = omega (arith, length-one n h) in
+          let z : at + last ≡ at = omega (arith, length-one n h) in
+          let v : d ≡ 48 + n = omega arith in
+          rw (y, z, set-set out at a b, set-set out at b d, digits-one n h) (byte-stored v)
 
-    pub stored-two : {b : ℕ} → 10 ≤ n → n < 100 → a ≡ 48 + n / 10 → b ≡ 48 + n % 10 → Writes (digits n) at out (at + 2) (set (set out at a) (at + 1) b)
-    stored-two l h p q = rw (digits-two n l h) (record { after = refl; bytes-left = rw (p, q, add-one at) })
+      two : 10 ≤ n → n < 100 → Writes (digits n) at out (at + last + 1) (set (set (set out at a) (at + last / 2) b) (at + last) d)
+      two l h =
+          let y : at + last / 2 ≡ at = omega (arith, length-two n l h) in
+          let z : at + last ≡ at + 1 = omega (arith, length-two n l h) in
+          let v : b ≡ 48 + n / 10 = omega arith in
+          rw (y, z, set-set out at a b, digits-two n l h) (writes-append (byte-stored v) (byte-stored r))
 
-    pub stored-three : {b d : ℕ} → 100 ≤ n → a ≡ 48 + n / 100 → b ≡ 48 + n / 10 % 10 → d ≡ 48 + n % 10
-        → Writes (digits n) at out (at + 3) (set (set (set out at a) (at + 1) b) (at + 2) d)
-    stored-three h p q r =
-        let z : at + 2 ≡ at + 1 + 1 = omega arith in
-        rw (digits-three n h) (record { after = refl; bytes-left = rw (p, q, r, z, add-one (at + 1), add-one at) })
+      go : (n < 10) ⊎ (10 ≤ n) → (n < 100) ⊎ (100 ≤ n) → Writes (digits n) at out (at + last + 1) (set (set (set out at a) (at + last / 2) b) (at + last) d)
+      go (inl h) w = one h
+      go (inr l) (inl h) = two l h
+      go (inr l) (inr h) =
+          let y : at + last / 2 ≡ at + 1 = omega (arith, length-three n h) in
+          let z : at + last ≡ at + 1 + 1 = omega (arith, length-three n h) in
+          rw (y, z, digits-three n h) (writes-append (byte-stored p) (writes-append (byte-stored q) (byte-stored r)))
 
 -- a number and its copy have one figure
 module _ {n r : ℕ} (e : r ≡ n) where

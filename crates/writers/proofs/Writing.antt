@@ -31,25 +31,6 @@ pub spaced : (a w b x d y f : List ℕ)
     → length (a ++ (w ++ (b ++ (x ++ (d ++ (y ++ f)))))) ≡ length a + length b + length d + length f + length w + length x + length y
 spaced a w b x d y f = simp length-append (omega arith)
 
--- three words have room, one after another
-pub record Room (at : ℕ) (out a b d : List ℕ) : Type 0 where
-  pub enough : at + length (a ++ (b ++ d)) ≤ length out
-
-module _ {at : ℕ} {out a b d : List ℕ} (r : Room at out a b d) where
-  -- the length of all three
-  whole : length (a ++ (b ++ d)) ≡ length a + length b + length d
-  whole = simp length-append (omega arith)
-
-  pub room-first : at + length a ≤ length out
-  room-first = omega (arith, r .enough, whole)
-
-  module _ {n : ℕ} {mid : List ℕ} (w : Writes a at out n mid) where
-    pub room-second : n + length b ≤ length mid
-    room-second = omega (arith, r .enough, whole, w .after, writes-length w)
-
-    pub room-third : {m : ℕ} {left : List ℕ} → Writes b n mid m left → m + length d ≤ length left
-    room-third v = omega (arith, r .enough, whole, w .after, writes-length w, v .after, writes-length v)
-
 -- one byte stored
 pub byte-stored : {x a at : ℕ} {out : List ℕ} → a ≡ x → Writes (x ∷ []) at out (at + 1) (set out at a)
 byte-stored {x} {a} {at} {out} e = record { after = refl; bytes-left = ap (set out at) e }

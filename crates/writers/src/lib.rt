@@ -28,24 +28,30 @@ pub fn write_bytes(word: &[u8], out: &mut [u8], at: usize) -> usize
     at + i
 }
 
-// A number up to 999.
+// How many digits a number up to 999 has.
+pub fn figure_len(n: usize) -> usize
+    requires { ⌜ n ≤ 999 ⌝ }
+    ensures { λ r. ⌜ (r ≡ length (digits n)) × (r ≤ 3) × (1 ≤ r) ⌝ }
+{
+    if n < 10 {
+        1
+    } else if n < 100 {
+        2
+    } else {
+        3
+    }
+}
+
+// A number up to 999. Each digit is stored, a leading zero too, which the digit after it overwrites: no branch.
 pub fn write_figure(n: usize, out: &mut [u8], at: usize) -> usize
     requires { ⌜ (n ≤ 999) × (at + length (digits n) ≤ length (now out)) ⌝ }
     ensures { λ r. ⌜ Writes (digits n) at (now (out .entry)) r (now (out .exit)) ⌝ }
 {
-    if n < 10 {
-        out[at] = digit(n);
-        return at + 1;
-    }
-    if n < 100 {
-        out[at] = digit(n / 10);
-        out[at + 1] = digit(n % 10);
-        return at + 2;
-    }
+    let last = figure_len(n) - 1;
     out[at] = digit(n / 100);
-    out[at + 1] = digit(n / 10 % 10);
-    out[at + 2] = digit(n % 10);
-    at + 3
+    out[at + last / 2] = digit(n / 10 % 10);
+    out[at + last] = digit(n % 10);
+    at + last + 1
 }
 
 // Any number, in base ten.

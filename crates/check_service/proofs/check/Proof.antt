@@ -1,32 +1,15 @@
 -- `check_service::check` meets its contract: each answer is a law of `Checking` at what the calls have said.
-use Prim.Native.Nat.{ℕ}
-use mathlib.Core.Path.{_≡_}
-use mathlib.Core.List.{List}
+use mathlib.Core.Path.{sym}
 use borrow.Author.Needs.{needs}
-use denote.Ref.{now}
-use lib.ListN.{length}
-use Rattle.reader.specs.declared.Tables.{Tables}
-use Rattle.sheet.specs.Written.{rowSheet}
-use Rattle.stages.proofs.Stages.{fresh, refused-text, past-text}
-use Rattle.check_service.proofs.Checking.{check-refused, refused-buffer, written}
+use Rattle.sheet.proofs.Told.{sheet-bounds}
+use Rattle.stages.proofs.Stages.{fresh, fresh-rows, refused-text, past-text}
+use Rattle.check_service.proofs.Checking.{check-refused, check-passed}
 use Rattle.check_service.proofs.check.Statement.{statement}
 use Rattle.check_service.proofs.check.Tie as tie
 
--- the text and its rows, from the place where the sheet's size is known
-abbrev bytes : tie.After-sheet-len → List ℕ
-bytes c = now (c .before .before .before .before .before .before .before .before .before .before .before .before .before .before .before .before .before .args .text)
-
-abbrev rows : tie.After-sheet-len → Tables
-rows c = c .before .before .before .before .before .before .before .before .before .before .read-as-far-as-12 .result .tables
-
-abbrev pre : tie.After-sheet-len → List ℕ
-pre c = c .before .before .before .before .before .before .before .before .before .before .read-as-far-as-12 .last .1 .0
-
-abbrev post : tie.After-sheet-len → List ℕ
-post c = c .before .before .before .before .before .before .before .before .before .before .read-as-far-as-12 .last .1 .1 .0
-
-sized : (c : tie.After-sheet-len) → c .sheet-len .result ≡ length (rowSheet (bytes c) (rows c) (pre c) (post c))
-sized c = let j = past-text (c .before .before .before .before .before .before .before .before .before .before .read-as-far-as-12 .ensures) (c .before .before .before .before .enum-told .given .1) in c .sheet-len .ensures _ (j .held .names)
+-- from the place where the text has passed back to where it was read
+abbrev read : tie.After-enum-told → tie.After-read-as-far-as-12
+read c = c .before .before .before .before .before
 
 slice-aggregate-read-as-far-as-12 : tie.Need-slice-aggregate-read-as-far-as-12
 slice-aggregate-read-as-far-as-12 c = search needs
@@ -37,53 +20,58 @@ slice-aggregate-read-as-far-as-12-2 c = search needs
 slice-aggregate-read-as-far-as-12-3 : tie.Need-slice-aggregate-read-as-far-as-12-3
 slice-aggregate-read-as-far-as-12-3 c = search needs
 
-slice-aggregate-read-as-far-as-12-4 : tie.Need-slice-aggregate-read-as-far-as-12-4
-slice-aggregate-read-as-far-as-12-4 c = search needs
-
 read-as-far-as-12-requires : tie.Need-read-as-far-as-12-requires
-read-as-far-as-12-requires c κs = fresh
+read-as-far-as-12-requires c κs = (fresh-rows, fresh)
 
 enum-known-verdict : tie.Need-enum-known-verdict
 enum-known-verdict c = search needs
 
 returns : tie.Need-returns
-returns c = check-refused _ _ _ (refused-text (c .before .before .before .before .before .before .before .read-as-far-as-12 .ensures) (c .before .verdict .given .1))
+returns c = check-refused _ _ _ (refused-text (c .before .before .before .before .before .before .read-as-far-as-12 .ensures) (c .before .verdict .given .1))
 
 enum-told : tie.Need-enum-told
 enum-told c = search needs
 
-slice-aggregate-sheet-len : tie.Need-slice-aggregate-sheet-len
-slice-aggregate-sheet-len c = search needs
+slice-aggregate-hand-over : tie.Need-slice-aggregate-hand-over
+slice-aggregate-hand-over c =
+    let past = c .before .before in
+    sym (past-text (read past .read-as-far-as-12 .ensures) (past .enum-told .given .1) .past .sized .name-places)
 
-slice-aggregate-sheet-len-2 : tie.Need-slice-aggregate-sheet-len-2
-slice-aggregate-sheet-len-2 c = search needs
+slice-aggregate-hand-over-2 : tie.Need-slice-aggregate-hand-over-2
+slice-aggregate-hand-over-2 c =
+    let past = c .before .before .before in
+    sym (past-text (read past .read-as-far-as-12 .ensures) (past .enum-told .given .1) .past .sized .name-lengths)
 
-sheet-len-requires : tie.Need-sheet-len-requires
-sheet-len-requires c κs = let j = past-text (c .before .before .before .before .before .before .before .before .before .read-as-far-as-12 .ensures) (c .before .before .before .enum-told .given .1) in (j .held .bounds, j .cover .moves .rows)
+slice-aggregate-hand-over-3 : tie.Need-slice-aggregate-hand-over-3
+slice-aggregate-hand-over-3 c =
+    let past = c .before .before .before .before in
+    sym (past-text (read past .read-as-far-as-12 .ensures) (past .enum-told .given .1) .past .sized .place-counts)
 
-returns-2 : tie.Need-returns-2
-returns-2 c =
-    let j = past-text (c .before .before .before .before .before .before .before .before .before .before .before .read-as-far-as-12 .ensures) (c .before .before .before .before .before .enum-told .given .1) in
-    refused-buffer j _ _ (sized (c .before)) (c .if1 .taken)
+slice-aggregate-hand-over-4 : tie.Need-slice-aggregate-hand-over-4
+slice-aggregate-hand-over-4 c =
+    let past = c .before .before .before .before .before in
+    sym (past-text (read past .read-as-far-as-12 .ensures) (past .enum-told .given .1) .past .sized .places)
 
-slice-aggregate-write-sheet : tie.Need-slice-aggregate-write-sheet
-slice-aggregate-write-sheet c = search needs
+slice-aggregate-hand-over-5 : tie.Need-slice-aggregate-hand-over-5
+slice-aggregate-hand-over-5 c = search needs
 
-slice-aggregate-write-sheet-2 : tie.Need-slice-aggregate-write-sheet-2
-slice-aggregate-write-sheet-2 c = search needs
+slice-aggregate-hand-over-6 : tie.Need-slice-aggregate-hand-over-6
+slice-aggregate-hand-over-6 c = search needs
 
-write-sheet-requires : tie.Need-write-sheet-requires
-write-sheet-requires c κs =
-    let j = past-text (c .before .before .before .before .before .before .before .before .before .before .before .before .before .before .read-as-far-as-12 .ensures) (c .before .before .before .before .before .before .before .before .enum-told .given .1) in
-    ((j .held .bounds, j .cover .moves .rows, j .held .names), rw (sized (c .before .before .before .before)) at (c .before .before .before .if1 .left))
+hand-over-requires : tie.Need-hand-over-requires
+hand-over-requires c κs =
+    let past = c .before .before .before .before .before .before .before .before in
+    let j = past-text (read past .read-as-far-as-12 .ensures) (past .enum-told .given .1) in
+    let z = j .past .sized in
+    (sheet-bounds _ _ _ _ _ _ _ _ _ (j .past .held .bounds) (z .name-lengths) (z .place-counts) (z .places), z .name-places, j .past .cover .moves .rows, j .past .held .names)
 
 same-length : tie.Need-same-length
 same-length c = search needs
 
-returns-3 : tie.Need-returns-3
-returns-3 c =
-    let j = past-text (c .before .before .before .before .before .before .before .before .before .before .before .before .before .before .before .before .before .read-as-far-as-12 .ensures) (c .before .before .before .before .before .before .before .before .before .before .before .enum-told .given .1) in
-    written j _ _ _ (sized (c .before .before .before .before .before .before .before)) (c .before .before .before .before .before .before .if1 .left) (c .before .before .write-sheet .ensures)
+returns-2 : tie.Need-returns-2
+returns-2 c =
+    let past = c .before .before .before .before .before .before .before .before .before .before .before in
+    check-passed (past-text (read past .read-as-far-as-12 .ensures) (past .enum-told .given .1)) _ _ _ (c .before .before .hand-over .ensures _ _ _ _)
 
 pub check-spec : {M : Type 1} → statement M
 check-spec =
@@ -92,17 +80,16 @@ check-spec =
     slice-aggregate-read-as-far-as-12
     slice-aggregate-read-as-far-as-12-2
     slice-aggregate-read-as-far-as-12-3
-    slice-aggregate-read-as-far-as-12-4
     read-as-far-as-12-requires
     enum-known-verdict
     returns
     enum-told
-    slice-aggregate-sheet-len
-    slice-aggregate-sheet-len-2
-    sheet-len-requires
-    returns-2
-    slice-aggregate-write-sheet
-    slice-aggregate-write-sheet-2
-    write-sheet-requires
+    slice-aggregate-hand-over
+    slice-aggregate-hand-over-2
+    slice-aggregate-hand-over-3
+    slice-aggregate-hand-over-4
+    slice-aggregate-hand-over-5
+    slice-aggregate-hand-over-6
+    hand-over-requires
     same-length
-    returns-3)
+    returns-2)

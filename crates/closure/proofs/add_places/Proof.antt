@@ -1,13 +1,14 @@
 -- `closure::add_places` meets its contract: the states passed are in the sets of their places. The laws are in `Filling`.
 use Prim.Native.Nat.{_-_}
 use mathlib.Core.Logic.{⊎-elim}
+use lib.ListN.{length}
 use borrow.Author.Needs.{needs}
 use Rattle.closure.proofs.Filling.{Filling, fill-start, fill-skip, fill-more, fill-end}
 use Rattle.closure.proofs.add_places.Statement.{statement}
 use Rattle.closure.proofs.add_places.Tie as tie
 
 abbrev Inv-loop : tie.InvT-loop
-Inv-loop place n m sets₀ from first x₀ sets x = Filling place n m sets x
+Inv-loop place n m sets₀ from first x₀ sets x = Filling place n (length sets₀) m sets x
 
 abbrev μ-loop : tie.MeasureT-loop
 μ-loop place n m sets₀ from first x₀ sets x = n - x
@@ -19,7 +20,7 @@ mul-first : tie.Need-mul-first Inv-loop μ-loop
 mul-first c = search needs
 
 loop-holds : tie.Need-loop-holds Inv-loop μ-loop
-loop-holds c = fill-start (c .before .before .pre .3)
+loop-holds c = fill-start (c .before .before .pre .4)
 
 add-wide : tie.Need-add-wide Inv-loop μ-loop
 add-wide c = search needs

@@ -7,13 +7,13 @@ use Rattle.irredundant.proofs.meet_below.Statement.{statement}
 use Rattle.irredundant.proofs.meet_below.Tie as tie
 
 abbrev Inv-loop : tie.InvT-loop
-Inv-loop sets pre machines events below₀ m₀ below m = Extended sets pre events below m
+Inv-loop sets pre machines events below₀ m₀ below m = Extended sets pre events below₀ below m
 
 abbrev μ-loop : tie.MeasureT-loop
 μ-loop sets pre machines events below₀ m₀ below m = machines - m
 
 loop-holds : tie.Need-loop-holds Inv-loop μ-loop
-loop-holds c = below-start (c .before .before .before .pre .3)
+loop-holds c = below-start (c .before .before .before .pre .1) (c .before .before .before .pre .3)
 
 sub-extend : tie.Need-sub-extend Inv-loop μ-loop
 sub-extend c = search needs

@@ -1,101 +1,54 @@
--- `irredundant::remove_redundant` meets its contract: the marks of the machines passed are those that thinning keeps. The laws are in `Examined`.
-use Prim.Native.Nat.{_<_}
+-- `irredundant::remove_redundant` meets its contract: the rows that it makes are empty and full. The laws are in `Extending` and in `Filling` of `closure`.
 use native.Mathlib.Omega.{arith}
-use mathlib.Core.Path.{refl}
-use mathlib.Core.Logic.{⊎-elim}
-use mathlib.Core.Bool.{not}
 use borrow.Author.Needs.{needs}
-use Rattle.irredundant.proofs.Extending.{below-first}
-use Rattle.irredundant.proofs.Examined.{added, same, Thinning, byte-small, thin-start, thin-room, thin-more, thin-end}
+use Rattle.closure.proofs.Filling.{no-machines}
+use Rattle.irredundant.proofs.Extending.{all-states}
 use Rattle.irredundant.proofs.remove_redundant.Statement.{statement}
 use Rattle.irredundant.proofs.remove_redundant.Tie as tie
 
-abbrev Inv-loop : tie.InvT-loop
-Inv-loop excited sets pre machines events below above₀ onAbove₀ kept₀ size₀ left₀ above onAbove kept size left =
-    Thinning excited sets pre machines events above onAbove kept size left
+slice-aggregate-thin : tie.Need-slice-aggregate-thin
+slice-aggregate-thin c = search needs
 
-abbrev μ-loop : tie.MeasureT-loop
-μ-loop excited sets pre machines events below above₀ onAbove₀ kept₀ size₀ left₀ above onAbove kept size left = left
+slice-aggregate-thin-2 : tie.Need-slice-aggregate-thin-2
+slice-aggregate-thin-2 c = search needs
 
-slice-aggregate-meet-below : tie.Need-slice-aggregate-meet-below Inv-loop μ-loop
-slice-aggregate-meet-below c = search needs
+thin-requires : tie.Need-thin-requires
+thin-requires c κs =
+    let p = c .before .before .before .before .before .before .before .pre in
+    let few = c .before .before .if1 .taken in (
+      (p .0, p .1, p .2),
+      (record { sets-size = omega (arith, few); pre-size = p .3; below-size = omega (arith, few) }, no-machines _ _ 512, all-states 512 (omega arith)),
+    )
 
-meet-below-requires : tie.Need-meet-below-requires Inv-loop μ-loop
-meet-below-requires c κs =
-    let p = c .before .before .before .before .pre in
-    (p .0, p .1, record { sets-size = p .3; pre-size = p .4; below-size = refl }, below-first _ _ _ (p .1))
+returns : tie.Need-returns
+returns c = search needs
 
-loop-holds : tie.Need-loop-holds Inv-loop μ-loop
-loop-holds c = thin-start
+slice-aggregate-thin-3 : tie.Need-slice-aggregate-thin-3
+slice-aggregate-thin-3 c = search needs
 
-sub-m : tie.Need-sub-m Inv-loop μ-loop
-sub-m c = search needs
+slice-aggregate-thin-4 : tie.Need-slice-aggregate-thin-4
+slice-aggregate-thin-4 c = search needs
 
-add-others : tie.Need-add-others Inv-loop μ-loop
-add-others c = search needs
+thin-requires-2 : tie.Need-thin-requires-2
+thin-requires-2 c κs =
+    let p = c .before .before .before .before .before .before .before .pre in
+    let most = p .0 .machines in (
+      (p .0, p .1, p .2),
+      (record { sets-size = omega (arith, most); pre-size = p .3; below-size = omega (arith, most) }, no-machines _ _ 4096, all-states 4096 (omega arith)),
+    )
 
-slice-aggregate-is-redundant : tie.Need-slice-aggregate-is-redundant Inv-loop μ-loop
-slice-aggregate-is-redundant c = search needs
-
-slice-aggregate-is-redundant-2 : tie.Need-slice-aggregate-is-redundant-2 Inv-loop μ-loop
-slice-aggregate-is-redundant-2 c = search needs
-
-slice-aggregate-is-redundant-3 : tie.Need-slice-aggregate-is-redundant-3 Inv-loop μ-loop
-slice-aggregate-is-redundant-3 c = search needs
-
-is-redundant-requires : tie.Need-is-redundant-requires Inv-loop μ-loop
-is-redundant-requires c κs = search needs
-
-slice-aggregate-add-machine : tie.Need-slice-aggregate-add-machine Inv-loop μ-loop
-slice-aggregate-add-machine c = search needs
-
-slice-aggregate-add-machine-2 : tie.Need-slice-aggregate-add-machine-2 Inv-loop μ-loop
-slice-aggregate-add-machine-2 c = search needs
-
-add-machine-requires : tie.Need-add-machine-requires Inv-loop μ-loop
-add-machine-requires c κs = search needs
-
--- there is room for a digit more
-room : (c : tie.Joined1 Inv-loop μ-loop) → c .before .before .before .before .before .before .loop .kept < 32768
-room c =
-    let inside = c .before .before .before .before .before in
-    thin-room (inside .before .loop .inv) (inside .before .before .before .before .before .before .before .before .pre .0) (inside .loop-test .taken)
-
-mul-kept : tie.Need-mul-kept Inv-loop μ-loop
-mul-kept c = omega (arith, room c)
-
-cast-kept : tie.Need-cast-kept Inv-loop μ-loop
-cast-kept c = search needs
-
-add-kept : tie.Need-add-kept Inv-loop μ-loop
-add-kept c = omega (arith, room c, byte-small (not (c .before .is-redundant .result)))
-
-cast-size : tie.Need-cast-size Inv-loop μ-loop
-cast-size c = search needs
-
-add-size : tie.Need-add-size Inv-loop μ-loop
-add-size c =
-    let at = c .before .before .before .before .before .before in
-    omega (arith, at .loop .inv .few, at .before .before .before .before .before .before .before .pre .0, byte-small (not (c .before .is-redundant .result)))
-
-sub-left : tie.Need-sub-left Inv-loop μ-loop
-sub-left c = search needs
-
-loop-less : tie.Need-loop-less Inv-loop μ-loop
-loop-less c = search needs
-
-loop-again : tie.Need-loop-again Inv-loop μ-loop
-loop-again c =
-    let at = c .before .before .before .before .before .before in
-    thin-more (at .before .before .meet-below .ensures) (at .loop .inv) (omega arith) (c .before .is-redundant .ensures)
-    (⊎-elim (λ w. added _ _ (w .0 .taken) (w .3 .ensures) (w .6) (w .7)) (λ w. same (w .0 .left) (w .1) (w .2)) (c .if1 .came))
-
-returns : tie.Need-returns Inv-loop μ-loop
-returns c = thin-end (c .before .loop .inv) (c .loop-test .left)
+returns-2 : tie.Need-returns-2
+returns-2 c = search needs
 
 pub remove-redundant-spec : {M : Type 1} → statement M
 remove-redundant-spec =
     tie.close
-    (tie.spec Inv-loop μ-loop slice-aggregate-meet-below meet-below-requires loop-holds sub-m add-others slice-aggregate-is-redundant
-    slice-aggregate-is-redundant-2 slice-aggregate-is-redundant-3 is-redundant-requires slice-aggregate-add-machine
-    slice-aggregate-add-machine-2 add-machine-requires mul-kept cast-kept add-kept cast-size add-size sub-left loop-less loop-again returns)
+    (tie.spec
+    slice-aggregate-thin
+    slice-aggregate-thin-2
+    thin-requires
+    returns
+    slice-aggregate-thin-3
+    slice-aggregate-thin-4
+    thin-requires-2
+    returns-2)

@@ -1,6 +1,6 @@
 -- `lines::read_events` meets its contract: the names are those that `read_names` stores.
 use Prim.Native.Nat.{ℕ}
-use mathlib.Core.Path.{_≡_, _∙_}
+use mathlib.Core.Path.{_≡_}
 use mathlib.Core.List.{List}
 use borrow.Author.Needs.{needs}
 use denote.Ref.{now}
@@ -8,9 +8,7 @@ use Rattle.model.specs.Bytes.{bytes}
 use Rattle.model.specs.Reading.{got, litBytes}
 use Rattle.model.specs.Form.{eventsLine}
 use Rattle.lexer.proofs.Answers.{literal-missing, literal-got}
-use Rattle.lines.specs.Rows.{row}
-use Rattle.lines.specs.Lines.{asEvents}
-use Rattle.lines.proofs.Events.{events-none, events-are}
+use Rattle.lines.proofs.Events.{events-none, events-are, events-stored, none-stored}
 use Rattle.lines.proofs.read_events.Statement.{statement}
 use Rattle.lines.proofs.read_events.Tie as tie
 
@@ -42,11 +40,11 @@ no-events-requires : tie.Need-no-events-requires
 no-events-requires c κs = search needs
 
 returns : tie.Need-returns
-unfolding eventsLine asEvents
+unfolding eventsLine
 returns c =
     let a = c .before .before .before .before .before .before .args in
-    c .no-events .ensures
-    ∙ simp (literal-missing (litBytes (bytes "(events") (now (a .s)) (a .at)) (c .before .before .before .read-literal .ensures) (c .before .enum-told .given .1))
+    let e = literal-missing (litBytes (bytes "(events") (now (a .s)) (a .at)) (c .before .before .before .read-literal .ensures) (c .before .enum-told .given .1) in
+    none-stored (c .no-events .ensures) (simp e)
 
 read-names-requires : tie.Need-read-names-requires
 read-names-requires c κs = search needs
@@ -69,17 +67,16 @@ no-events-requires-2 c κs = search needs
 returns-2 : tie.Need-returns-2
 returns-2 c =
     let k = c .before .before .before .before .before .before .before .before .before .before in
-    c .no-events2 .ensures
-    ∙ events-none (text k) (place k) (next k) (begins k) (c .before .before .before .before .before .read-names .ensures .0)
-    (literal-missing _ (c .before .before .before .read-literal2 .ensures) (c .before .enum-told2 .given .1))
+    none-stored (c .no-events2 .ensures)
+    (events-none (text k) (place k) (next k) (begins k) (c .before .before .before .before .before .read-names .ensures .0)
+    (literal-missing _ (c .before .before .before .read-literal2 .ensures) (c .before .enum-told2 .given .1)))
 
 returns-3 : tie.Need-returns-3
-unfolding row
 returns-3 c =
     let k = c .before .before .before .before .before .before .before .before .before .before in
     let n = c .before .before .before .before .before .read-names .ensures in
-    events-are (text k) (place k) (next k) (begins k) (n .0) (literal-got _ (c .before .before .before .read-literal2 .ensures) (c .before .next .given .1))
-    (n .1 .0) (n .1 .1 .0) (n .1 .1 .1 .0) (n .1 .1 .1 .1)
+    let l = literal-got _ (c .before .before .before .read-literal2 .ensures) (c .before .next .given .1) in
+    (events-are (text k) (place k) (next k) (begins k) (n .0) l, events-stored (text k) (place k) (next k) (begins k) (n .0) l (n .1))
 
 pub read-events-spec : {M : Type 1} → statement M
 read-events-spec =

@@ -8,10 +8,13 @@ use Rattle.product.proofs.run_from.Statement.{statement}
 use Rattle.product.proofs.run_from.Tie as tie
 
 abbrev Inv-loop : tie.InvT-loop
-Inv-loop pre post machines events places₀ ran₀ places ran = Running pre post machines places₀ events places ran
+Inv-loop pre post machines events bounds places₀ ran₀ places ran = Running pre post machines places₀ events places ran
 
 abbrev μ-loop : tie.MeasureT-loop
-μ-loop pre post machines events places₀ ran₀ places ran = length events - ran
+μ-loop pre post machines events bounds places₀ ran₀ places ran = length events - ran
+
+place-bounds-requires : tie.Need-place-bounds-requires Inv-loop μ-loop
+place-bounds-requires c κs = search needs
 
 loop-holds : tie.Need-loop-holds Inv-loop μ-loop
 loop-holds c = run-start
@@ -25,16 +28,16 @@ wide-requires c κs = search needs
 step-requires : tie.Need-step-requires Inv-loop μ-loop
 step-requires c κs =
     let b = c .before .before in
-    let start = b .before .before .before .before .before in
-    (start .pre .0, omega (arith, c .wide .ensures .0, start .pre .2 (b .before .loop .ran) (b .loop-test .taken)), start .pre .1)
+    let bounded = b .before .before in
+    let start = bounded .before .before .before .before in
+    (start .pre .0, bounded .«place-bounds» .ensures, omega (arith, c .wide .ensures .0, start .pre .2 (b .before .loop .ran) (b .loop-test .taken)), start .pre .1)
 
 returns : tie.Need-returns Inv-loop μ-loop
 returns c =
     let stepped = c .before .before in
     let read = stepped .before in
     let turn = read .before .before in
-    let few = turn .before .before .before .before .before .pre .0 in
-    run-blocked few (turn .before .loop .inv) (turn .loop-test .taken) (read .wide .ensures .0) (stepped .step .ensures) (c .if1 .taken)
+    run-blocked (search needs) (turn .before .loop .inv) (turn .loop-test .taken) (read .wide .ensures .0) (stepped .step .ensures) (c .if1 .taken)
 
 add-ran : tie.Need-add-ran Inv-loop μ-loop
 add-ran c = search needs
@@ -47,11 +50,10 @@ loop-again c =
     let stepped = c .before .before in
     let read = stepped .before in
     let turn = read .before .before in
-    let few = turn .before .before .before .before .before .pre .0 in
-    run-more few (turn .before .loop .inv) (turn .loop-test .taken) (read .wide .ensures .0) (stepped .step .ensures) (c .if1 .left)
+    run-more (search needs) (turn .before .loop .inv) (turn .loop-test .taken) (read .wide .ensures .0) (stepped .step .ensures) (c .if1 .left)
 
 returns-2 : tie.Need-returns-2 Inv-loop μ-loop
-returns-2 c = run-end (c .before .before .before .before .before .pre .0) (c .before .loop .inv) (c .loop-test .left)
+returns-2 c = run-end (search needs) (c .before .loop .inv) (c .loop-test .left)
 
 pub run-from-spec : {M : Type 1} → statement M
 run-from-spec =
@@ -59,6 +61,7 @@ run-from-spec =
     (tie.spec
     Inv-loop
     μ-loop
+    place-bounds-requires
     loop-holds
     shared-slice-read-wide
     wide-requires

@@ -1,63 +1,77 @@
--- `product::step` meets its contract: the machines passed have moved. The laws are in `Moving`.
-use native.Mathlib.Omega.{arith}
-use mathlib.Core.Logic.{⊎-elim}
+-- `product::step` meets its contract: the machine numbers passed are asked, and have moved if all are ready. The laws are in `Moving`.
+use Prim.Native.Nat.{_-_}
 use borrow.Author.Needs.{needs}
-use Rattle.product.proofs.Moving.{Moving, move-start, move-skip, move-more, move-blocked, move-end}
+use Rattle.product.proofs.Moving.{Lanes, lane-start, lane-more, lane-end, lane-blocked}
 use Rattle.product.proofs.step.Statement.{statement}
 use Rattle.product.proofs.step.Tie as tie
 
 abbrev Inv-loop : tie.InvT-loop
-Inv-loop pre post machines e places moved₀ left₀ moved left = Moving pre post machines places e moved left
+Inv-loop pre post machines e bounds places at moved₀ ready₀ m₀ moved ready m = Lanes pre post machines places e moved ready m
 
 abbrev μ-loop : tie.MeasureT-loop
-μ-loop pre post machines e places moved₀ left₀ moved left = left
-
-loop-holds : tie.Need-loop-holds Inv-loop μ-loop
-loop-holds c = move-start (search needs)
-
-sub-m : tie.Need-sub-m Inv-loop μ-loop
-sub-m c = search needs
+μ-loop pre post machines e bounds places at moved₀ ready₀ m₀ moved ready m = 16 - m
 
 mul-at : tie.Need-mul-at Inv-loop μ-loop
 mul-at c = search needs
 
-add-at : tie.Need-add-at Inv-loop μ-loop
-add-at c = search needs
+loop-holds : tie.Need-loop-holds Inv-loop μ-loop
+loop-holds c = lane-start (search needs)
+
+add-from : tie.Need-add-from Inv-loop μ-loop
+add-from c = search needs
 
 shared-slice-read-from : tie.Need-shared-slice-read-from Inv-loop μ-loop
 shared-slice-read-from c = search needs
 
-wide-requires : tie.Need-wide-requires Inv-loop μ-loop
-wide-requires c κs = search needs
+array-read-on : tie.Need-array-read-on Inv-loop μ-loop
+array-read-on c = search needs
 
-array-read-if2 : tie.Need-array-read-if2 Inv-loop μ-loop
-array-read-if2 c = search needs
+array-read-is-ready : tie.Need-array-read-is-ready Inv-loop μ-loop
+array-read-is-ready c = search needs
 
-returns : tie.Need-returns Inv-loop μ-loop
-returns c =
-    let b = c .before .before .before .before in
-    move-blocked (b .before .loop .inv) (b .loop-test .taken) (search needs) (omega arith) (c .if2 .taken)
+is-ready-requires : tie.Need-is-ready-requires Inv-loop μ-loop
+is-ready-requires c κs = search needs
 
-shared-slice-read-moved : tie.Need-shared-slice-read-moved Inv-loop μ-loop
-shared-slice-read-moved c = search needs
+add-place-after : tie.Need-add-place-after Inv-loop μ-loop
+add-place-after c = search needs
+
+shared-slice-read-place-after : tie.Need-shared-slice-read-place-after Inv-loop μ-loop
+shared-slice-read-place-after c = search needs
+
+array-read-place-after : tie.Need-array-read-place-after Inv-loop μ-loop
+array-read-place-after c = search needs
+
+place-after-requires : tie.Need-place-after-requires Inv-loop μ-loop
+place-after-requires c κs = search needs
 
 array-write-moved : tie.Need-array-write-moved Inv-loop μ-loop
 array-write-moved c = search needs
 
-sub-left : tie.Need-sub-left Inv-loop μ-loop
-sub-left c = search needs
+add-m : tie.Need-add-m Inv-loop μ-loop
+add-m c = search needs
 
 loop-less : tie.Need-loop-less Inv-loop μ-loop
 loop-less c = search needs
 
 loop-again : tie.Need-loop-again Inv-loop μ-loop
 loop-again c =
-    let b = c .before .before .before in
-    ⊎-elim (λ w. move-more (b .before .loop .inv) (b .loop-test .taken) (omega arith) (omega arith) (w .1 .left) (w .3))
-    (λ w. move-skip (b .before .loop .inv) (b .loop-test .taken) (omega arith) (w .1)) (c .if1 .came)
+    let ready = c .before .before in
+    let turn = ready .before .before in
+    lane-more (turn .before .loop .inv) (turn .loop-test .taken)
+    (turn .before .before .before .before .pre .1) (ready .«is-ready» .ensures) (c .«place-after» .ensures)
+
+returns : tie.Need-returns Inv-loop μ-loop
+returns c =
+    let end = c .before in
+    lane-end (end .before .loop .inv) (search needs) (end .loop-test .left) (c .if1 .taken)
+
+blocking-machine-requires : tie.Need-blocking-machine-requires Inv-loop μ-loop
+blocking-machine-requires c κs = search needs
 
 returns-2 : tie.Need-returns-2 Inv-loop μ-loop
-returns-2 c = move-end (c .before .loop .inv) (c .loop-test .left)
+returns-2 c =
+    let end = c .before .before in
+    lane-blocked (end .before .loop .inv) (search needs) (end .loop-test .left) (search needs) (c .before .if1 .left) (c .«blocking-machine» .ensures)
 
 pub step-spec : {M : Type 1} → statement M
 step-spec =
@@ -65,17 +79,21 @@ step-spec =
     (tie.spec
     Inv-loop
     μ-loop
-    loop-holds
-    sub-m
     mul-at
-    add-at
+    loop-holds
+    add-from
     shared-slice-read-from
-    wide-requires
-    array-read-if2
-    returns
-    shared-slice-read-moved
+    array-read-on
+    array-read-is-ready
+    is-ready-requires
+    add-place-after
+    shared-slice-read-place-after
+    array-read-place-after
+    place-after-requires
     array-write-moved
-    sub-left
+    add-m
     loop-less
     loop-again
+    returns
+    blocking-machine-requires
     returns-2)

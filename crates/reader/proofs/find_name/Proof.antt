@@ -2,8 +2,9 @@
 use Prim.Native.Nat.{_-_}
 use native.Mathlib.Omega.{arith}
 use mathlib.Core.Logic.{⊎-elim}
+use Rattle.quick_step.specs.Quick.{Same}
 use Rattle.reader.proofs.Searches.{Upto, upto-start, upto-more}
-use Rattle.reader.proofs.NameRows.{Same, finds}
+use Rattle.reader.proofs.NameRows.{finds}
 use Rattle.reader.proofs.find_name.Statement.{statement}
 use Rattle.reader.proofs.find_name.Tie as tie
 
@@ -37,7 +38,7 @@ element-copy-out-if3 c = omega arith
 returns : tie.Need-returns Inv-loop μ-loop
 returns c =
     finds (c .before .before .before .before .before .before .before .loop .inv)
-    (λ _. record { high = c .before .before .before .before .if1 .taken; low = c .before .before .if2 .taken; long = c .if3 .taken })
+    (λ _. record { low = c .before .before .before .before .if1 .taken; high = c .before .before .if2 .taken; long = c .if3 .taken })
 
 add-k : tie.Need-add-k Inv-loop μ-loop
 add-k c = omega arith
@@ -48,7 +49,7 @@ loop-less c = omega arith
 loop-again : tie.Need-loop-again Inv-loop μ-loop
 loop-again c =
     upto-more (c .before .before .before .loop .inv) (c .before .before .loop-test .taken)
-    (⊎-elim (λ w s. w .4 .left (s .long)) (⊎-elim (λ w s. w .2 .left (s .low)) (λ w s. w .left (s .high))) (c .if1 .came))
+    (⊎-elim (λ w s. w .4 .left (s .long)) (⊎-elim (λ w s. w .2 .left (s .high)) (λ w s. w .left (s .low))) (c .if1 .came))
 
 returns-2 : tie.Need-returns-2 Inv-loop μ-loop
 returns-2 c = finds (c .before .loop .inv) (λ b. absurd (omega arith))

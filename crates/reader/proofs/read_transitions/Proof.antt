@@ -1,116 +1,101 @@
 -- `reader::read_transitions` meets its contract. The invariant: the step lines so far are read into the rows, and the rest comes to the same.
-use Prim.Native.Nat.{ℕ, _-_, _<_}
+use Prim.Native.Nat.{_-_}
 use native.Mathlib.Omega.{arith}
-use mathlib.Core.Path.{refl, sym, _∙_}
 use denote.Ref.{now}
 use borrow.Author.Needs.{needs}
-use borrow.Author.Tests.{not-true, not-false}
-use Rattle.model.specs.Form.{stepLine}
-use Rattle.lines.specs.declared.StepWords.{StepWords}
-use Rattle.lines.proofs.Found.{GotStep, step-got, step-missing}
-use Rattle.reader.proofs.Rest.{step-moves}
 use lib.ListN.{length}
-use Rattle.reader.specs.Sections.{transitionRows}
-use Rattle.reader.proofs.StepSection.{SoFar, steps-start, all-below, section-end, section-limit, section-undeclared, section-more}
+use Rattle.reader.specs.Sections.{transitionRows, StepFound, StepRead}
+use Rattle.reader.proofs.Rest.{step-moves}
+use Rattle.reader.proofs.StepSection.{SoFar, steps-start, step-found, section-end, section-stop, section-more}
 use Rattle.reader.proofs.read_transitions.Statement.{statement}
 use Rattle.reader.proofs.read_transitions.Tie as tie
 
 abbrev Inv-loop : tie.InvT-loop
-Inv-loop s at n source₀ event₀ target₀ names count k₀ i₀ source event target k i =
-    SoFar s at n names (transitionRows source₀ event₀ target₀) count k i (transitionRows source event target)
+Inv-loop s at n len high low count source₀ event₀ target₀ hints k₀ i₀ source event target k i =
+    SoFar s at n count len high low (transitionRows source₀ event₀ target₀) k i (transitionRows source event target)
 
 abbrev μ-loop : tie.MeasureT-loop
-μ-loop s at n source₀ event₀ target₀ names count k₀ i₀ source event target k i = length s - i
+μ-loop s at n len high low count source₀ event₀ target₀ hints k₀ i₀ source event target k i = length s - i
 
--- from the place behind a line that was read, and from the places further on: where the turn began, the line, its number within the limit
-abbrev turn : tie.After-known-told Inv-loop μ-loop → tie.At-loop Inv-loop μ-loop
-turn c = c .before .before .before .before
+-- where a turn began, and where the function did
+abbrev turn : tie.After-step-at Inv-loop μ-loop → tie.At-loop Inv-loop μ-loop
+turn c = c .before .before
 
-abbrev limited : tie.After-all-declared Inv-loop μ-loop → tie.Else1 Inv-loop μ-loop
-limited c = c .before .before .before .before .before .before
+abbrev start : tie.After-step-at Inv-loop μ-loop → tie.Start Inv-loop μ-loop
+start c = turn c .before .before .before .before
 
-abbrev line : tie.After-all-declared Inv-loop μ-loop → tie.After-known-told Inv-loop μ-loop
-line c = limited c .before
+-- the place behind a line that is declared, and from places further on back to it: the line's numbers and the next position
+abbrev Line : Type 0
+Line = tie.After-known-told2 Inv-loop μ-loop
 
-abbrev tested : tie.After-narrow3 Inv-loop μ-loop → tie.After-all-declared Inv-loop μ-loop
-tested c = c .before .before .before .before
+abbrev stored : tie.After-narrow3 Inv-loop μ-loop → Line
+stored c = c .before .before .before
 
-abbrev words : tie.After-known-told Inv-loop μ-loop → StepWords
-words c = c .before .step .given .0 .0
+abbrev asked : Line → tie.After-step-at Inv-loop μ-loop
+asked c = c .before .before .before
 
-abbrev states : tie.After-all-declared Inv-loop μ-loop → ℕ
-states c = turn (line c) .before .before .args .n
+found : (c : Line)
+    → let a = start (asked c) .args in
+    let l = turn (asked c) .loop in
+    let g = c .before .a .given .0 in
+    StepFound (now (a .s)) (l .i) (a .n) (a .count) (now (a .«len»)) (now (a .«high»)) (now (a .«low»)) (l .k) (g .0) (g .1 .0) (g .1 .1 .0) (g .1 .1 .1 .0)
+found c = step-found (c .before .a .given .1) (asked c .step-at .ensures)
 
--- the line that a turn has read
-found : (c : tie.After-known-told Inv-loop μ-loop) → GotStep (stepLine (now (turn c .before .before .args .s)) (turn c .loop .i)) (words c)
-found c = step-got _ _ (c .before .before .before .read-step .ensures) (c .before .step .given .1)
-
--- it is declared
-below : (c : tie.Else2 Inv-loop μ-loop)
-    → (words (line (c .before)) .source < states (c .before)) × (words (line (c .before)) .target < states (c .before))
-    × (c .before .before .find-name .result < turn (line (c .before)) .before .before .args .t4 .count)
-below c = all-below _ _ _ _ _ (sym (c .before .all-declared .ensures) ∙ not-false _ (c .if2 .left))
+fill-hints-requires : tie.Need-fill-hints-requires Inv-loop μ-loop
+fill-hints-requires c κs = search needs
 
 loop-holds : tie.Need-loop-holds Inv-loop μ-loop
-loop-holds c = record { most = omega arith; few = c .before .pre .1; same = refl; states = c .before .pre .0; so-far = λ es x m r. steps-start r }
+loop-holds c =
+    let p = c .before .before .before .pre in
+    record { most = omega arith; few = p .1; states = p .0; so-far = λ es x d r. steps-start r }
 
-read-step-requires : tie.Need-read-step-requires Inv-loop μ-loop
-read-step-requires c κs = search needs
-
-enum-known-step : tie.Need-enum-known-step Inv-loop μ-loop
-enum-known-step c = search needs
+step-at-requires : tie.Need-step-at-requires Inv-loop μ-loop
+step-at-requires c κs = search needs
 
 enum-told : tie.Need-enum-told Inv-loop μ-loop
 enum-told c = search needs
 
 returns : tie.Need-returns Inv-loop μ-loop
-returns c = section-end (c .before .before .before .loop .inv) (step-missing _ _ (c .before .before .read-step .ensures) (c .enum-told .given .1))
+unfolding StepRead
+returns c = let d = c .before .before in section-end (turn d .loop .inv) (rw (c .enum-told .given .1) at (d .step-at .ensures))
 
-add-line : tie.Need-add-line Inv-loop μ-loop
-add-line c = search needs
+enum-known-why : tie.Need-enum-known-why Inv-loop μ-loop
+enum-known-why c = search needs
 
 returns-2 : tie.Need-returns-2 Inv-loop μ-loop
-returns-2 c = section-limit (turn (c .before) .loop .inv) (found (c .before)) (c .if1 .taken)
+unfolding StepRead
+returns-2 c = let d = c .before .before .before in section-stop (turn d .loop .inv) (rw (c .before .why .given .1) at (d .step-at .ensures))
 
-find-name-requires : tie.Need-find-name-requires Inv-loop μ-loop
-find-name-requires c κs = search needs
-
-all-declared-requires : tie.Need-all-declared-requires Inv-loop μ-loop
-all-declared-requires c κs = search needs
-
-returns-3 : tie.Need-returns-3 Inv-loop μ-loop
-returns-3 c =
-    section-undeclared (turn (line (c .before)) .loop .inv) (found (line (c .before))) (limited (c .before) .if1 .left) (c .before .before .find-name .ensures)
-    (sym (c .before .all-declared .ensures) ∙ not-true _ (c .if2 .taken))
+enum-known-a : tie.Need-enum-known-a Inv-loop μ-loop
+enum-known-a c = search needs
 
 narrow-requires : tie.Need-narrow-requires Inv-loop μ-loop
-narrow-requires c κs = omega (arith, below c, turn (line (c .before)) .loop .inv .states)
+narrow-requires c κs = let f = found c in omega (arith, turn (asked c) .loop .inv .states)
 
 element-write-source : tie.Need-element-write-source Inv-loop μ-loop
-element-write-source c = search needs
+element-write-source c = omega (arith, found (c .before) .room)
 
 narrow-requires-2 : tie.Need-narrow-requires-2 Inv-loop μ-loop
-narrow-requires-2 c κs = omega (arith, below (c .before), turn (line (c .before .before)) .loop .inv .few)
+narrow-requires-2 c κs = let f = found (c .before) in omega (arith, turn (asked (c .before)) .loop .inv .few)
 
 element-write-event : tie.Need-element-write-event Inv-loop μ-loop
-element-write-event c = search needs
+element-write-event c = omega (arith, found (c .before .before) .room)
 
 narrow-requires-3 : tie.Need-narrow-requires-3 Inv-loop μ-loop
-narrow-requires-3 c κs = omega (arith, below (c .before .before), turn (line (c .before .before .before)) .loop .inv .states)
+narrow-requires-3 c κs = let f = found (c .before .before) in omega (arith, turn (asked (c .before .before)) .loop .inv .states)
 
 element-write-target : tie.Need-element-write-target Inv-loop μ-loop
-element-write-target c = search needs
+element-write-target c = omega (arith, found (stored c) .room)
 
 add-k : tie.Need-add-k Inv-loop μ-loop
 add-k c = search needs
 
 loop-less : tie.Need-loop-less Inv-loop μ-loop
-loop-less c = omega (arith, step-moves _ _ (found (line (tested c)) .read))
+loop-less c = omega (arith, step-moves _ _ (found (stored c) .line))
 
 loop-again : tie.Need-loop-again Inv-loop μ-loop
 loop-again c =
-    section-more (turn (line (tested c)) .loop .inv) (found (line (tested c))) (limited (tested c) .if1 .left) (tested c .before .find-name .ensures)
-    (sym (tested c .all-declared .ensures) ∙ not-false _ (c .before .before .before .if2 .left)) (c .before .before .narrow .ensures) (c .before .narrow2 .ensures) (c .narrow3 .ensures)
+    section-more (turn (asked (stored c)) .loop .inv) (found (stored c)) (c .before .before .narrow .ensures) (c .before .narrow2 .ensures) (c .narrow3 .ensures)
 
 pub read-transitions-spec : {M : Type 1} → statement M
 read-transitions-spec =
@@ -118,16 +103,14 @@ read-transitions-spec =
     (tie.spec
     Inv-loop
     μ-loop
+    fill-hints-requires
     loop-holds
-    read-step-requires
-    enum-known-step
+    step-at-requires
     enum-told
     returns
-    add-line
+    enum-known-why
     returns-2
-    find-name-requires
-    all-declared-requires
-    returns-3
+    enum-known-a
     narrow-requires
     element-write-source
     narrow-requires-2

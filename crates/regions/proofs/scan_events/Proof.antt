@@ -12,16 +12,16 @@ use Rattle.regions.proofs.scan_events.Statement.{statement}
 use Rattle.regions.proofs.scan_events.Tie as tie
 
 abbrev Inv-loop : tie.InvT-loop
-Inv-loop source target place first next n events m pre post e k₀ one k = Walk source target place first next n m e one k
+Inv-loop source target place first next m pre post n events e k₀ one k = Walk source target place first next n m e one k
 
 abbrev μ-loop : tie.MeasureT-loop
-μ-loop source target place first next n events m pre post e k₀ one k = n - k
+μ-loop source target place first next m pre post n events e k₀ one k = n - k
 
 abbrev Inv-events : tie.InvT-events
-Inv-events source target place first next n events m pre₀ post₀ e₀ pre post e = (e ≤ events) × Sofar source target place first next n m pre₀ post₀ pre post e
+Inv-events source target place first next m pre₀ post₀ n events e₀ pre post e = (e ≤ events) × Sofar source target place first next n m pre₀ post₀ pre post e
 
 abbrev μ-events : tie.MeasureT-events
-μ-events source target place first next n events m pre₀ post₀ e₀ pre post e = events - e
+μ-events source target place first next m pre₀ post₀ n events e₀ pre post e = events - e
 
 -- the crossing that the others are compared with is that of the event's first transition
 first-crossing : (c : tie.After-crossing-at Inv-loop μ-loop Inv-events μ-events)

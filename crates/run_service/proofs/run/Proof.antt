@@ -1,10 +1,15 @@
 -- `run_service::run` meets its contract: both answers are laws of `Running` at what the calls have said.
 use native.Mathlib.Omega.{arith}
+use mathlib.Core.Path.{sym}
 use borrow.Author.Needs.{needs}
-use Rattle.stages.proofs.Stages.{fresh, refused-text, past-text}
+use Rattle.stages.proofs.Stages.{fresh, fresh-rows, refused-text, past-text}
 use Rattle.run_service.proofs.Running.{run-refused, ran}
 use Rattle.run_service.proofs.run.Statement.{statement}
 use Rattle.run_service.proofs.run.Tie as tie
+
+-- from the place where the text has passed back to where it was read
+abbrev read : tie.After-enum-told → tie.After-read-as-far-as-12
+read c = c .before .before .before .before .before
 
 slice-aggregate-read-as-far-as-12 : tie.Need-slice-aggregate-read-as-far-as-12
 slice-aggregate-read-as-far-as-12 c = search needs
@@ -15,11 +20,8 @@ slice-aggregate-read-as-far-as-12-2 c = search needs
 slice-aggregate-read-as-far-as-12-3 : tie.Need-slice-aggregate-read-as-far-as-12-3
 slice-aggregate-read-as-far-as-12-3 c = search needs
 
-slice-aggregate-read-as-far-as-12-4 : tie.Need-slice-aggregate-read-as-far-as-12-4
-slice-aggregate-read-as-far-as-12-4 c = search needs
-
 read-as-far-as-12-requires : tie.Need-read-as-far-as-12-requires
-read-as-far-as-12-requires c κs = fresh
+read-as-far-as-12-requires c κs = (fresh-rows, fresh)
 
 enum-known-verdict : tie.Need-enum-known-verdict
 enum-known-verdict c = search needs
@@ -28,15 +30,20 @@ refused-requires : tie.Need-refused-requires
 refused-requires c κs = search needs
 
 returns : tie.Need-returns
-returns c = run-refused _ _ _ (refused-text (c .before .before .before .before .before .before .before .before .read-as-far-as-12 .ensures) (c .before .before .verdict .given .1)) (c .refused .ensures)
+returns c = run-refused _ _ _ (refused-text (c .before .before .before .before .before .before .before .read-as-far-as-12 .ensures) (c .before .before .verdict .given .1)) (c .refused .ensures)
 
 enum-told : tie.Need-enum-told
 enum-told c = search needs
 
+slice-aggregate-places-of : tie.Need-slice-aggregate-places-of
+slice-aggregate-places-of c = sym (past-text (read (c .before .before) .read-as-far-as-12 .ensures) (c .before .before .enum-told .given .1) .past .sized .places)
+
 places-of-requires : tie.Need-places-of-requires
 places-of-requires c κs =
-    let b = (past-text (c .before .before .before .before .before .before .before .before .before .before .read-as-far-as-12 .ensures) (c .before .before .before .before .enum-told .given .1)) .held .bounds in
-    (search needs, omega (arith, b .initial, b .states), b .machines)
+    let past = c .before .before in
+    let j = past-text (read past .read-as-far-as-12 .ensures) (past .enum-told .given .1) in
+    let b = j .past .held .bounds in
+    (j .past .sized .places, omega (arith, b .initial, b .states), b .machines)
 
 slice-aggregate-run-events : tie.Need-slice-aggregate-run-events
 slice-aggregate-run-events c = search needs
@@ -46,12 +53,14 @@ slice-aggregate-run-events-2 c = search needs
 
 run-events-requires : tie.Need-run-events-requires
 run-events-requires c κs =
-    let j = past-text (c .before .before .before .before .before .before .before .before .before .before .before .before .before .read-as-far-as-12 .ensures) (c .before .before .before .before .before .before .before .enum-told .given .1) in
-    (j .held .bounds .machines, j .held .bounds .events, j .cover .moves .rows)
+    let past = c .before .before .before .before .before in
+    let j = past-text (read past .read-as-far-as-12 .ensures) (past .enum-told .given .1) in
+    (j .past .held .bounds .machines, j .past .held .bounds .events, j .past .cover .moves .rows)
 
 returns-2 : tie.Need-returns-2
 returns-2 c =
-    let j = past-text (c .before .before .before .before .before .before .before .before .before .before .before .before .before .before .read-as-far-as-12 .ensures) (c .before .before .before .before .before .before .before .before .enum-told .given .1) in
+    let past = c .before .before .before .before .before .before in
+    let j = past-text (read past .read-as-far-as-12 .ensures) (past .enum-told .given .1) in
     ran j _ _ (c .before .before .before .places-of .ensures) (c .run-events .ensures)
 
 pub run-spec : {M : Type 1} → statement M
@@ -61,12 +70,12 @@ run-spec =
     slice-aggregate-read-as-far-as-12
     slice-aggregate-read-as-far-as-12-2
     slice-aggregate-read-as-far-as-12-3
-    slice-aggregate-read-as-far-as-12-4
     read-as-far-as-12-requires
     enum-known-verdict
     refused-requires
     returns
     enum-told
+    slice-aggregate-places-of
     places-of-requires
     slice-aggregate-run-events
     slice-aggregate-run-events-2

@@ -1,107 +1,49 @@
--- `sheet::write_move` meets its contract: seven words, one after another.
+-- `sheet::write_move` meets its contract: what stands before the name, the name, and what stands behind it.
 use native.Mathlib.Omega.{arith}
 use borrow.Author.Needs.{needs}
 use denote.Ref.{now}
+use lib.ListN.{take, drop}
+use Rattle.model.specs.Bytes.{bytes}
 use Rattle.model.specs.Sheet.{moveBytes}
-use Rattle.writers.proofs.Writing.{writes-append}
-use Rattle.writers.proofs.Figures.{length-same, writes-same}
-use Rattle.sheet.proofs.Parts.{length-move}
+use Rattle.sheet.specs.Written.{placesBytes}
+use Rattle.sheet.proofs.Within.{Room, room-first, room-second, room-third, all-three, length-cut}
 use Rattle.sheet.proofs.write_move.Statement.{statement}
 use Rattle.sheet.proofs.write_move.Tie as tie
+
+-- its three parts have room
+room : (c : tie.Start) → let a = c .args in
+    let name = take (a .«len») (drop (a .start) (now (a .text))) in
+    Room (a .at) (a .size) (now (a .out)) (bytes " (move ") name (placesBytes (a .pre) (a .post))
+unfolding moveBytes placesBytes
+room c = record { enough = c .pre .1; fits = c .pre .0 .2 }
 
 slice-aggregate-write-bytes : tie.Need-slice-aggregate-write-bytes
 slice-aggregate-write-bytes c = search needs
 
 write-bytes-requires : tie.Need-write-bytes-requires
-write-bytes-requires c κs =
-    let a = c .before .before .before .before .args in
-    omega (arith, length-move (now (a .name)) (a .pre) (a .post))
+write-bytes-requires c κs = room-first (room (c .before .before .before .before))
 
-write-bytes-requires-2 : tie.Need-write-bytes-requires-2
-write-bytes-requires-2 c κs =
-    let a = c .before .before .before .before .before .before .before .before .args in
-    omega (arith, length-move (now (a .name)) (a .pre) (a .post))
+write-name-requires : tie.Need-write-name-requires
+write-name-requires c κs =
+    let s = c .before .before .before .before .before .before .before .before in
+    let r = room-second (room s) (c .before .before .before .write-bytes .ensures) in
+    let a = s .args in
+    (s .pre .0 .0, s .pre .0 .1, omega (arith, r .0, length-cut (now (a .text)) (a .start) (a .«len») (s .pre .0 .1)), r .1)
 
-slice-aggregate-write-bytes-2 : tie.Need-slice-aggregate-write-bytes-2
-slice-aggregate-write-bytes-2 c = search needs
-
-write-bytes-requires-3 : tie.Need-write-bytes-requires-3
-write-bytes-requires-3 c κs =
-    let a = c .before .before .before .before .before .before .before .before .before .before .before .before .before .args in
-    omega (arith, length-move (now (a .name)) (a .pre) (a .post))
-
-wide-requires : tie.Need-wide-requires
-wide-requires c κs = search needs
-
-write-figure-requires : tie.Need-write-figure-requires
-write-figure-requires c κs =
-    let a = c .before .before .before .before .before .before .before .before .before .before .before .before .before .before .before .before .before
-    .before .args in
-    (omega arith, omega (arith, length-move (now (a .name)) (a .pre) (a .post), length-same (c .before .wide .ensures .0)))
-
-slice-aggregate-write-bytes-3 : tie.Need-slice-aggregate-write-bytes-3
-slice-aggregate-write-bytes-3 c = search needs
-
-write-bytes-requires-4 : tie.Need-write-bytes-requires-4
-write-bytes-requires-4 c κs =
-    let a = c .before .before .before .before .before .before .before .before .before .before .before .before .before .before .before .before .before .before
-    .before .before .before .before .before .args in
-    omega (arith, length-move (now (a .name)) (a .pre) (a .post), length-same (c .before .before .before .before .before .before .wide .ensures .0))
-
-wide-requires-2 : tie.Need-wide-requires-2
-wide-requires-2 c κs = search needs
-
-write-figure-requires-2 : tie.Need-write-figure-requires-2
-write-figure-requires-2 c κs =
-    let a = c .before .before .before .before .before .before .before .before .before .before .before .before .before .before .before .before .before .before
-    .before .before .before .before .before .before .before .before .before .before .args in (
-      omega arith,
-      omega (
-        arith,
-        length-move (now (a .name)) (a .pre) (a .post),
-        length-same (c .before .before .before .before .before .before .before .before .before .before .before .wide .ensures .0),
-        length-same (c .before .wide2 .ensures .0),
-      ),
-    )
-
-slice-aggregate-write-bytes-4 : tie.Need-slice-aggregate-write-bytes-4
-slice-aggregate-write-bytes-4 c = search needs
-
-write-bytes-requires-5 : tie.Need-write-bytes-requires-5
-write-bytes-requires-5 c κs =
-    let a = c .before .before .before .before .before .before .before .before .before .before .before .before .before .before .before .before .before .before
-    .before .before .before .before .before .before .before .before .before .before .before .before .before .before .before .args in
-    omega (
-      arith,
-      c .before .before .before .before .before .before .before .before .before .before .before .before .before .before .before .before .before
-          .before .before .before .before .before .before .before .before .before .before .before .before .before .before .before .before .pre,
-      c .before .before .before .before .before .before .before .before .before .before .before .before .before .before .before .before .before .before .before
-          .before .before .before .before .before .before .before .before .before .write-bytes .ensures .after,
-      length-move (now (a .name)) (a .pre) (a .post),
-      length-same (c .before .before .before .before .before .before .before .before .before .before .before .before .before .before .before
-          .before .wide .ensures .0),
-      length-same (c .before .before .before .before .before .before .wide2 .ensures .0),
-    )
+write-places-requires : tie.Need-write-places-requires
+write-places-requires c κs =
+    room-third (room (c .before .before .before .before .before .before .before .before .before .before .before .before)) (c .before .before .before .before
+    .before .before .before .write-bytes .ensures) (c .before .before .before .write-name .ensures)
 
 same-length : tie.Need-same-length
 same-length c = search needs
 
 returns : tie.Need-returns
-unfolding moveBytes
+unfolding moveBytes placesBytes
 returns c =
-    let w7 = c .before .before in
-    let w6 = w7 .before .before .before .before .before in
-    let w5 = w6 .before .before .before .before .before in
-    let w4 = w5 .before .before .before .before .before in
-    let w3 = w4 .before .before .before .before .before in
-    let w2 = w3 .before .before .before .before .before in
-    let w1 = w2 .before .before .before .before in
-    writes-append (w1 .write-bytes .ensures)
-    (writes-append (w2 .write-bytes2 .ensures)
-    (writes-append (w3 .write-bytes3 .ensures)
-    (writes-append (writes-same (w4 .before .before .wide .ensures .0) (w4 .write-figure .ensures))
-    (writes-append (w5 .write-bytes4 .ensures)
-    (writes-append (writes-same (w6 .before .before .wide2 .ensures .0) (w6 .write-figure2 .ensures)) (w7 .write-bytes5 .ensures))))))
+    all-three (room (c .before .before .before .before .before .before .before .before .before .before .before .before .before .before .before)) (c .before
+    .before .before .before .before .before .before .before .before .before .write-bytes .ensures) (c .before .before .before .before .before .before
+    .write-name .ensures) (c .before .before .write-places .ensures)
 
 pub write-move-spec : {M : Type 1} → statement M
 write-move-spec =
@@ -109,16 +51,7 @@ write-move-spec =
     (tie.spec
     slice-aggregate-write-bytes
     write-bytes-requires
-    write-bytes-requires-2
-    slice-aggregate-write-bytes-2
-    write-bytes-requires-3
-    wide-requires
-    write-figure-requires
-    slice-aggregate-write-bytes-3
-    write-bytes-requires-4
-    wide-requires-2
-    write-figure-requires-2
-    slice-aggregate-write-bytes-4
-    write-bytes-requires-5
+    write-name-requires
+    write-places-requires
     same-length
     returns)

@@ -5,8 +5,9 @@ use borrow.Author.Needs.{needs}
 use denote.Ref.{now}
 use Rattle.model.specs.Text.{read}
 use Rattle.checker.proofs.Verdicts.{no-excitations}
+use Rattle.checker.proofs.Rows.{system-bounded}
 use Rattle.stages.specs.Stages.{Held}
-use Rattle.stages.proofs.Stages.{held, refused-to-3, judged-7}
+use Rattle.stages.proofs.Stages.{held, rows-bounded, refused-to-3, judged-7}
 use Rattle.stages.proofs.read_as_far_as_7.Statement.{statement}
 use Rattle.stages.proofs.read_as_far_as_7.Tie as tie
 
@@ -36,10 +37,12 @@ slice-aggregate-check-transition-system : tie.Need-slice-aggregate-check-transit
 slice-aggregate-check-transition-system c = search needs
 
 check-transition-system-requires : tie.Need-check-transition-system-requires
-check-transition-system-requires c κs = (reading (c .before .before) .bounds, no-excitations)
+check-transition-system-requires c κs =
+    let b = reading (c .before .before .before .before .before .before .before .before .before) .bounds in
+    ((system-bounded (rows-bounded b), no-excitations), (search needs, search needs, search needs))
 
 returns-2 : tie.Need-returns-2
-returns-2 c = judged-7 (reading (c .before .before .before .before)) _ (c .before .check-transition-system .ensures .0)
+returns-2 c = judged-7 (reading (c .before .before .before .before .before .before .before .before .before .before .before)) _ (c .before .check-transition-system .ensures .0)
 
 pub read-as-far-as-7-spec : {M : Type 1} → statement M
 read-as-far-as-7-spec =

@@ -1,36 +1,43 @@
--- `thin_service::thin` meets its contract: both answers are laws of `Thinning` at what the calls have said.
+-- `thin_service::thin` meets its contract: the answers are laws of `Thinning` at what the calls have said.
+use mathlib.Core.Path.{sym}
 use borrow.Author.Needs.{needs}
-use Rattle.stages.proofs.Stages.{fresh, refused-text, past-text}
-use Rattle.thin_service.proofs.Thinning.{thin-refused, kept}
+use Rattle.stages.proofs.Stages.{fresh, fresh-rows, refused-text-10, past-text-10, counts-bounded}
+use Rattle.thin_service.proofs.Thinning.{thin-refused, refused-by-cover, kept}
 use Rattle.thin_service.proofs.thin.Statement.{statement}
 use Rattle.thin_service.proofs.thin.Tie as tie
 
-slice-aggregate-read-as-far-as-12 : tie.Need-slice-aggregate-read-as-far-as-12
-slice-aggregate-read-as-far-as-12 c = search needs
+-- from the place where the text is past 10 back to where it was read, and from the answer of thinning to that place
+abbrev read : tie.After-enum-told → tie.After-read-as-far-as-10
+read c = c .before .before .before .before .before
 
-slice-aggregate-read-as-far-as-12-2 : tie.Need-slice-aggregate-read-as-far-as-12-2
-slice-aggregate-read-as-far-as-12-2 c = search needs
+abbrev past : tie.After-remove-redundant → tie.After-enum-told
+past c = c .before .before .before .before .before
 
-slice-aggregate-read-as-far-as-12-3 : tie.Need-slice-aggregate-read-as-far-as-12-3
-slice-aggregate-read-as-far-as-12-3 c = search needs
+slice-aggregate-read-as-far-as-10 : tie.Need-slice-aggregate-read-as-far-as-10
+slice-aggregate-read-as-far-as-10 c = search needs
 
-slice-aggregate-read-as-far-as-12-4 : tie.Need-slice-aggregate-read-as-far-as-12-4
-slice-aggregate-read-as-far-as-12-4 c = search needs
+slice-aggregate-read-as-far-as-10-2 : tie.Need-slice-aggregate-read-as-far-as-10-2
+slice-aggregate-read-as-far-as-10-2 c = search needs
 
-read-as-far-as-12-requires : tie.Need-read-as-far-as-12-requires
-read-as-far-as-12-requires c κs = fresh
+slice-aggregate-read-as-far-as-10-3 : tie.Need-slice-aggregate-read-as-far-as-10-3
+slice-aggregate-read-as-far-as-10-3 c = search needs
+
+read-as-far-as-10-requires : tie.Need-read-as-far-as-10-requires
+read-as-far-as-10-requires c κs = (fresh-rows, fresh)
 
 enum-known-verdict : tie.Need-enum-known-verdict
 enum-known-verdict c = search needs
 
 returns : tie.Need-returns
-returns c = thin-refused _ _ (refused-text (c .before .before .before .before .before .before .before .read-as-far-as-12 .ensures) (c .before .verdict .given .1))
+returns c = thin-refused _ _ (refused-text-10 (c .before .before .before .before .before .before .read-as-far-as-10 .ensures) (c .before .verdict .given .1))
 
 enum-told : tie.Need-enum-told
 enum-told c = search needs
 
 slice-aggregate-remove-redundant : tie.Need-slice-aggregate-remove-redundant
-slice-aggregate-remove-redundant c = search needs
+slice-aggregate-remove-redundant c =
+    let at = c .before .before in
+    sym (past-text-10 (read at .read-as-far-as-10 .ensures) (at .enum-told .given .1) .sized .places)
 
 slice-aggregate-remove-redundant-2 : tie.Need-slice-aggregate-remove-redundant-2
 slice-aggregate-remove-redundant-2 c = search needs
@@ -40,23 +47,36 @@ slice-aggregate-remove-redundant-3 c = search needs
 
 remove-redundant-requires : tie.Need-remove-redundant-requires
 remove-redundant-requires c κs =
-    let j = past-text (c .before .before .before .before .before .before .before .before .before .before .read-as-far-as-12 .ensures) (c .before .before .before .before .enum-told .given .1) in
-    (j .held .bounds .machines, j .held .bounds .events, j .cover .excitations .size, j .cover .size, j .cover .moves .rows .pre-size)
+    let at = c .before .before .before .before in
+    let k = past-text-10 (read at .read-as-far-as-10 .ensures) (at .enum-told .given .1) in
+    (counts-bounded k, k .sized .places, k .cover .excitations .size, k .cover .moves .rows .pre-size)
+
+enum-known-fault : tie.Need-enum-known-fault
+enum-known-fault c = search needs
+
+enum-known-kept : tie.Need-enum-known-kept
+enum-known-kept c = search needs
 
 returns-2 : tie.Need-returns-2
 returns-2 c =
-    let j = past-text (c .before .before .before .before .before .before .before .before .before .before .before .read-as-far-as-12 .ensures) (c .before .before .before .before .before .enum-told .given .1) in
-    kept j _ (c .remove-redundant .ensures)
+    let thinned = c .before .before .before in
+    let at = past thinned in
+    refused-by-cover (past-text-10 (read at .read-as-far-as-10 .ensures) (at .enum-told .given .1)) (thinned .remove-redundant .ensures) (c .before .fault .given .1)
+
+returns-3 : tie.Need-returns-3
+returns-3 c =
+    let thinned = c .before .before .before in
+    let at = past thinned in
+    kept (past-text-10 (read at .read-as-far-as-10 .ensures) (at .enum-told .given .1)) (thinned .remove-redundant .ensures) (c .before .kept .given .1)
 
 pub thin-spec : {M : Type 1} → statement M
 thin-spec =
     tie.close
     (tie.spec
-    slice-aggregate-read-as-far-as-12
-    slice-aggregate-read-as-far-as-12-2
-    slice-aggregate-read-as-far-as-12-3
-    slice-aggregate-read-as-far-as-12-4
-    read-as-far-as-12-requires
+    slice-aggregate-read-as-far-as-10
+    slice-aggregate-read-as-far-as-10-2
+    slice-aggregate-read-as-far-as-10-3
+    read-as-far-as-10-requires
     enum-known-verdict
     returns
     enum-told
@@ -64,4 +84,7 @@ thin-spec =
     slice-aggregate-remove-redundant-2
     slice-aggregate-remove-redundant-3
     remove-redundant-requires
-    returns-2)
+    enum-known-fault
+    enum-known-kept
+    returns-2
+    returns-3)

@@ -12,14 +12,14 @@ use Rattle.transition_system.proofs.add_transition.Tie as tie
 abbrev start : tie.After-shared-slice-known6 → tie.Start
 start c = c .before .before .before .before .before .before .before .before
 
-abbrev moves : tie.After-contains → tie.Else1
-moves c = c .before .before .before .before
+abbrev moves : tie.After-contains-at → tie.Else1
+moves c = c .before .before .before
 
 -- whether the event is excited already
-excites : (c : tie.After-contains) → c .contains .result
+excites : (c : tie.After-contains-at) → c .contains-at .result
     ≡ memberAt (now (start (moves c .before) .args .excited)) (getD (now (start (moves c .before) .args .event)) (start (moves c .before) .args .k) 0)
     (getD (now (start (moves c .before) .args .source)) (start (moves c .before) .args .k) 0)
-excites c = tested _ _ (c .before .before .wide .ensures .0) (c .before .load .ensures) (c .contains .ensures)
+excites c = tested _ _ (c .before .wide .ensures .0) (c .contains-at .ensures)
 
 shared-slice-read-s : tie.Need-shared-slice-read-s
 shared-slice-read-s c = search needs
@@ -39,11 +39,8 @@ returns c = stands (start (c .before) .pre .0) (c .if1 .taken)
 wide-requires : tie.Need-wide-requires
 wide-requires c κs = search needs
 
-load-requires : tie.Need-load-requires
-load-requires c κs = search needs
-
-contains-requires : tie.Need-contains-requires
-contains-requires c κs = search needs
+contains-at-requires : tie.Need-contains-at-requires
+contains-at-requires c κs = search needs
 
 first-leading-requires : tie.Need-first-leading-requires
 first-leading-requires c κs = search needs
@@ -98,8 +95,7 @@ add-transition-spec =
     add-line
     returns
     wide-requires
-    load-requires
-    contains-requires
+    contains-at-requires
     first-leading-requires
     add-earlier
     same-length

@@ -1,12 +1,14 @@
 -- `transition_system::add_transitions` meets its contract. The laws are in `Scanning`.
 use Prim.Native.Nat.{_-_}
+use mathlib.Core.Path.{refl}
+use lib.ListN.{length}
 use borrow.Author.Needs.{needs}
-use Rattle.transition_system.proofs.Scanning.{SoFar, scan-start, scan-end, scan-stop, scan-more}
+use Rattle.transition_system.proofs.Scanning.{SoFar, scan-start, scan-end, in-rows, scan-stop, scan-more}
 use Rattle.transition_system.proofs.add_transitions.Statement.{statement}
 use Rattle.transition_system.proofs.add_transitions.Tie as tie
 
 abbrev Inv-loop : tie.InvT-loop
-Inv-loop source event target n excited₀ successors₀ k₀ excited successors k = SoFar source event target n k excited successors
+Inv-loop source event target n excited₀ successors₀ k₀ excited successors k = SoFar source event target n (length successors₀) k excited successors
 
 abbrev μ-loop : tie.MeasureT-loop
 μ-loop source event target n excited₀ successors₀ k₀ excited successors k = n - k
@@ -24,7 +26,7 @@ loop-holds c = scan-start (c .before .before .before .before .before .pre .1)
 add-transition-requires : tie.Need-add-transition-requires Inv-loop μ-loop
 add-transition-requires c κs =
     let d = c .before .before .before in
-    (d .before .before .before .before .before .before .pre .0 _ (c .before .before .loop-test .taken), d .loop .inv .sets)
+    (in-rows (d .loop .inv) refl (d .before .before .before .before .before .before .pre .0 _ (c .before .before .loop-test .taken)), d .loop .inv .sets)
 
 enum-known-verdict : tie.Need-enum-known-verdict Inv-loop μ-loop
 enum-known-verdict c = search needs
@@ -53,7 +55,7 @@ loop-again : tie.Need-loop-again Inv-loop μ-loop
 loop-again c =
     let d = called (c .before .before) in
     scan-more (turn d .loop .inv) (d .before .before .before .loop-test .taken) (c .enum-told .given .1) (d .add-transition .ensures .0)
-    (d .add-transition .ensures .1)
+    (d .add-transition .ensures .1) (search needs)
 
 same-length-3 : tie.Need-same-length-3 Inv-loop μ-loop
 same-length-3 c = search needs

@@ -38,7 +38,7 @@ outside : (c : tie.After-lowest) {o : Option ℕ} → stateFound (c .lowest .res
     → ts .initial ≡ c .before .before .before .before .args .initial → Successors (ts .transitions) (c .before .before .before .before .args .successors .now)
     → andThen o (below (c .before .before .before .before .args .n)) ≡ unreachableState ts
 outside c e ts w p i q =
-    unreached-by _ (c .before .before .before .before .pre .1) (c .before .without .ensures) (sym e ∙ c .lowest .ensures) ts w p
+    unreached-by _ (c .before .before .before .before .pre .2) (c .before .without .ensures) (sym e ∙ c .lowest .ensures) ts w p
     (c .before .before .reached .ensures ts i q)
 
 returns : tie.Need-returns

@@ -1,0 +1,92 @@
+//! The texts, and the calls that are timed on them.
+use crate::call::{Call, Programs, Service, Told, SHEET};
+use crate::peer;
+use std::fs;
+
+/// A text of bench/texts, all of which are accepted.
+pub struct Text {
+    pub name: String,
+    pub bytes: Vec<u8>,
+    /// A list of events that runs to its end.
+    pub walk: Vec<u8>,
+}
+
+pub struct Case {
+    pub name: String,
+    pub call: Call,
+    /// What all programs tell.
+    pub told: Told,
+    /// ns a call of each program, sample by sample. A program without the service has no samples.
+    pub ns: [Vec<f64>; 3],
+}
+
+impl Case {
+    /// Whatever the programs do not agree on is not timed.
+    pub fn new(programs: &mut Programs, name: &str, text: &[u8], service: Service) -> Case {
+        let call = Call { text: text.to_vec(), service };
+        let mut all = programs.iter_mut().filter_map(|program| program.tell(&call));
+        let told = all.next().expect("what the proved library tells");
+        if !all.all(|other| other == told) {
+            eprintln!("bench: the programs do not agree on {} ({name})", call.service.word());
+            std::process::exit(1);
+        }
+        Case { name: name.to_string(), call, told, ns: Default::default() }
+    }
+
+    pub fn refusal(&self) -> Option<[usize; 3]> {
+        match self.told {
+            Told::Refused(refusal) => Some(refusal),
+            _ => None,
+        }
+    }
+}
+
+/// By fixed turns the first event that runs, until 256 have run or none does.
+fn walk(text: &[u8]) -> Vec<u8> {
+    let (mut events, mut turn) = (Vec::new(), 0u8);
+    let runs = |events: &[u8]| peer::run(text, events).ran == peer::Ran::Whole;
+    while events.len() < 256 {
+        let next = (0..64).map(|i| turn.wrapping_mul(7).wrapping_add(i) % 64);
+        let Some(event) = next.into_iter().find(|event| runs(&[&events[..], &[*event]].concat())) else { break };
+        events.push(event);
+        turn = turn.wrapping_add(11);
+    }
+    events
+}
+
+/// Every file of bench/texts, by name.
+pub fn texts() -> Vec<Text> {
+    let mut files: Vec<_> =
+        fs::read_dir("bench/texts").expect("bench/texts").flatten().map(|file| file.path()).collect();
+    files.sort();
+    let text = |file: &std::path::PathBuf| {
+        let bytes = fs::read(file).expect("a text");
+        let name = file.file_stem().expect("a name").to_string_lossy().into_owned();
+        Text { name, walk: walk(&bytes), bytes }
+    };
+    files.iter().map(text).collect()
+}
+
+/// The number of the event that is declared last.
+pub fn last_event(text: &[u8]) -> usize {
+    let line = text.split(|b| *b == b'\n').nth(1).expect("a line of events");
+    line.iter().filter(|b| **b == b' ').count() - 1
+}
+
+/// All services on a text. The last name is the one that takes longest to find.
+pub fn accepted(programs: &mut Programs, text: &Text) -> Vec<Case> {
+    let Text { name, bytes, walk } = text;
+    let services = [
+        Service::Check(SHEET),
+        Service::Steps,
+        Service::Name(last_event(bytes)),
+        Service::Run(walk.clone()),
+        Service::Thin,
+    ];
+    let case = |service| {
+        let case = Case::new(programs, name, bytes, service);
+        assert!(case.refusal().is_none(), "{name} is refused");
+        case
+    };
+    services.map(case).into()
+}

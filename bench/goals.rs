@@ -1,0 +1,68 @@
+//! What the measured times have to keep to.
+use crate::call::{PEER, PROVED, SERVICES};
+use crate::cases::Case;
+use crate::table::Table;
+use crate::timing::{median, ratio};
+
+struct Goal {
+    what: String,
+    most: f64,
+    /// For each service that it is about, in the order of `SERVICES`.
+    measured: [Option<f64>; 5],
+}
+
+impl Goal {
+    fn row(self) -> Vec<String> {
+        let Goal { what, most, measured } = self;
+        let worst = measured.into_iter().flatten().fold(0.0, f64::max);
+        let verdict = if worst <= most { "met".to_string() } else { format!("missed by {:.2}", worst - most) };
+        let figures = measured.map(|figure| figure.map_or(String::new(), |figure| format!("{figure:.2}")));
+        [vec![what, most.to_string()], figures.into(), vec![verdict]].concat()
+    }
+}
+
+fn of<'a>(cases: &'a [Case], service: &'a str) -> impl Iterator<Item = &'a Case> {
+    cases.iter().filter(move |case| case.call.service.word() == service)
+}
+
+/// The proved library beside the peer on one text.
+fn to_peer(cases: &[Case], text: &str, most: f64) -> Goal {
+    let measured = SERVICES.map(|service| {
+        let case = of(cases, service).find(|case| case.name == text)?;
+        (!case.ns[PEER].is_empty()).then(|| ratio(&case.ns[PROVED], &case.ns[PEER]))
+    });
+    Goal { what: format!("proved to peer on {text}"), most, measured }
+}
+
+/// Thin beside check, on the text where it takes longest for it.
+fn thin_to_check(cases: &[Case]) -> Goal {
+    let both = of(cases, "thin").zip(of(cases, "check"));
+    let ratios = both.map(|(thin, check)| (ratio(&thin.ns[PROVED], &check.ns[PROVED]), &thin.name));
+    let (worst, text) = ratios.max_by(|a, b| a.0.total_cmp(&b.0)).expect("a text");
+    Goal {
+        what: format!("thin to check on {text}, the worst"),
+        most: 1.5,
+        measured: [None, None, None, None, Some(worst)],
+    }
+}
+
+/// The most ns a byte to the least, over the texts of all sizes.
+fn flat(cases: &[Case], series: &str) -> Goal {
+    let measured = SERVICES.map(|service| {
+        let texts = of(cases, service).filter(|case| case.name.starts_with(series));
+        let a_byte: Vec<f64> = texts.map(|case| median(&case.ns[PROVED]) / case.call.text.len() as f64).collect();
+        Some(a_byte.iter().copied().fold(0.0, f64::max) / a_byte.iter().copied().fold(f64::MAX, f64::min))
+    });
+    Goal { what: format!("ns/byte, most to least, {series}04k to 32k"), most: 1.5, measured }
+}
+
+/// Of the accepted texts.
+pub fn goals(cases: &[Case]) -> Table {
+    let large = of(cases, "check").filter(|case| case.name.ends_with("-32k"));
+    let mut goals: Vec<Goal> = large.map(|case| to_peer(cases, &case.name, 1.5)).collect();
+    goals.push(to_peer(cases, "a-y", 2.0));
+    goals.push(thin_to_check(cases));
+    goals.extend(["machines-", "steps-"].map(|series| flat(cases, series)));
+    let head = [vec!["goal", "at most"], SERVICES.to_vec(), vec!["verdict"]].concat();
+    Table { head, rows: goals.into_iter().map(Goal::row).collect() }
+}

@@ -1,0 +1,2 @@
+-- what a step line's words come to: verified, or unknown
+pub mod Quick

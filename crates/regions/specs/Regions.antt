@@ -1,0 +1,52 @@
+-- What checking 8 to 10 answers. It reads the counts and five rows of the tables.
+use Prim.Native.Nat.{ℕ}
+use mathlib.Core.Path.{_≡_}
+use mathlib.Core.Bool.{Bool, true}
+use mathlib.Core.List.{List, []}
+use mathlib.Core.Option.{none}
+use lib.ListN.{length}
+use Rattle.model.specs.TransitionSystem.{unusedEvent}
+use Rattle.model.specs.Machine.{Decomposition, machinesRefusal}
+use Rattle.reader.specs.declared.Counts.{Counts}
+use Rattle.reader.specs.declared.Tables.{Tables}
+use Rattle.reader.specs.declared.Verdict.{Verdict}
+use Rattle.reader.specs.declared.Verdict.the-variants.{Passed}
+use Rattle.reader.specs.Tables.{verdictRefusal, tablesIn}
+use Rattle.reader.specs.Told.{systemOf, MachinesTold}
+use Rattle.reader.specs.Bounded.{Bounded}
+use Rattle.regions.specs.Moves.{MoveRows, MovesTold}
+
+-- the tables but for names and sizes, which no check here reads
+abbrev pub rowsOf : Counts → List ℕ → List ℕ → List ℕ → List ℕ → List ℕ → Tables
+rowsOf c source event target duplicate place = tablesIn c [] [] source event target [] duplicate place
+
+pub record RowLengths (source event target duplicate place : List ℕ) : Type 0 where
+  pub sources : length source ≡ 1024
+  pub events : length event ≡ 1024
+  pub targets : length target ≡ 1024
+  pub duplicates : length duplicate ≡ 16
+  pub places : length place ≡ 4096
+
+-- past 1 to 7
+pub record Checkable (c : Counts) (source event target duplicate place pre post : List ℕ) : Type 0 where
+  pub bounded : Bounded (rowsOf c source event target duplicate place)
+  pub used : unusedEvent (systemOf (rowsOf c source event target duplicate place)) ≡ none
+  pub lengths : RowLengths source event target duplicate place
+  pub rows : MoveRows pre post
+
+-- the verdict on the machines that the tables tell of; passed, the rows have the move of each event on each of them
+abbrev pub Answer : Tables → Verdict → List ℕ → List ℕ → Type 0
+Answer p r pre post =
+    ((ms : Decomposition) → MachinesTold (systemOf p) p ms → verdictRefusal r ≡ machinesRefusal (systemOf p) 0 ms)
+    × ((ms : Decomposition) → MachinesTold (systemOf p) p ms → verdictRefusal r ≡ none → MovesTold (systemOf p) ms pre post)
+
+-- whatever the names and the sizes of the machines are
+abbrev pub RegionsTold : Counts → List ℕ → List ℕ → List ℕ → List ℕ → List ℕ → Verdict → List ℕ → List ℕ → Type 0
+RegionsTold c source event target duplicate place r pre post =
+    (ats lens sizes : List ℕ) → Bounded (tablesIn c ats lens source event target sizes duplicate place)
+    → Answer (tablesIn c ats lens source event target sizes duplicate place) r pre post
+
+-- the answer yes says that all machines pass; after no the rows of moves are of no use
+pub record PassesAtOnce (c : Counts) (source event target duplicate place : List ℕ) (r : Bool) (pre post : List ℕ) : Type 0 where
+  pub rows : MoveRows pre post
+  pub passed : r ≡ true → RegionsTold c source event target duplicate place Passed pre post
