@@ -9,8 +9,8 @@ use Rattle.model.specs.TransitionSystem.{unusedEvent, systemRefusal}
 use Rattle.reader.specs.declared.Counts.{Counts}
 use Rattle.reader.specs.declared.Verdict.{Verdict}
 use Rattle.reader.specs.declared.Verdict.the-variants.{Refused}
-use Rattle.reader.specs.Tables.{verdictRefusal, tablesIn}
-use Rattle.reader.specs.Told.{systemOf, MachinesTold}
+use Rattle.reader.specs.Tables.{verdictRefusal}
+use Rattle.reader.specs.Told.{systemOf}
 use Rattle.reader.specs.Bounded.{Bounded}
 use Rattle.reader.proofs.Telling.{told-place}
 use Rattle.transition_system.specs.Sets.{Excitations, systemRows}

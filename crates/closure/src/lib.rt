@@ -25,10 +25,11 @@ use state_set::lowest;
 use state_set::meet;
 use state_set::without;
 
-// Four words for each place of each machine, and for each place of the few machines of a small text, which then clears no more.
+// Four words for each place of each machine.
 pub const PLACE_WORDS: usize = 4096;
 
-pub const FEW: usize = 2;
+// So many machines at most take a shorter row, which takes less time to clear.
+pub const FEW_MACHINES: usize = 2;
 
 pub const FEW_WORDS: usize = 512;
 
@@ -50,7 +51,7 @@ fn add_places(place: &[u8], n: usize, m: usize, sets: &mut [u64])
 }
 
 // The places of all machines as sets, in a row of empty sets.
-pub fn add_machines(place: &[u8], n: usize, machines: usize, sets: &mut [u64])
+fn add_machines(place: &[u8], n: usize, machines: usize, sets: &mut [u64])
     requires { ⌜ (n ≤ 256) × (machines ≤ 16) × (machines * 256 ≤ length (now sets)) × (length (now place) ≡ 4096) × PlaceSets (now place) n (length (now sets)) 0 (now sets) ⌝ }
     ensures { λ _. ⌜ PlaceSets (now (place .entry)) n (length (now (sets .entry))) machines (now (sets .exit)) ⌝ }
 {
@@ -187,7 +188,7 @@ pub fn check_cover(c: Counts, place: &[u8], excited: &[u64], pre: &[u8]) -> Verd
     requires { ⌜ CountsBounded c × (length (now place) ≡ 4096) × (length (now excited) ≡ 256) × (length (now pre) ≡ 1024) ⌝ }
     ensures { λ r. ⌜ CoverJudged c (now (pre .entry)) (now (place .entry)) (now (excited .entry)) r ⌝ }
 {
-    if c.machines <= FEW {
+    if c.machines <= FEW_MACHINES {
         let mut few = [0u64; FEW_WORDS];
         return check_cover_in(c, place, excited, pre, &mut few);
     }

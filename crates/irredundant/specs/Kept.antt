@@ -37,7 +37,7 @@ pub record Thins (c : Counts) (pre place excited : List ℕ) (r : Reduction) : T
   pub thins : (ts : TransitionSystem) (ms : Decomposition) (post : List ℕ) → CoverTold ts ms pre post place excited → ts .states ≡ c .states
       → ts .events ≡ c .events → length ms ≡ c .machines → ThinsTo ts ms r
 
--- r is what Thin keeps of machines that pass 11 and 12, with the places as sets
+-- r is what Thin keeps of any machines that the rows tell, with the places as sets
 pub record ThinsBySets (pre sets excited : List ℕ) (machines events : ℕ) (r : Kept) : Type 0 where
   pub keeps : (ts : TransitionSystem) (ms : Decomposition) (post : List ℕ) → SetsTold ts ms pre post sets excited → machines ≡ length ms
       → events ≡ ts .events → Keeps ts ms r

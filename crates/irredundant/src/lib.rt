@@ -4,7 +4,7 @@ ghost use Prim.Native.Nat.{_*_, _+_, _<_, _≤_};
 ghost use lib.ListN.{length};
 ghost use Rattle.closure.specs.Covers.{CountsBounded, PlaceSets};
 ghost use Rattle.irredundant.specs.Kept.{Sizes, AboveSizes, BesideSizes, Extends, AllStates, Below, Adds, coveredWithout, redundant, ThinsBySets, Thins};
-use closure::FEW;
+use closure::FEW_MACHINES;
 use closure::FEW_WORDS;
 use closure::PLACE_WORDS;
 use closure::check_cover_in;
@@ -206,7 +206,7 @@ pub fn remove_redundant(c: Counts, place: &[u8], excited: &[u64], pre: &[u8]) ->
     requires { ⌜ CountsBounded c × (length (now place) ≡ 4096) × (length (now excited) ≡ 256) × (length (now pre) ≡ 1024) ⌝ }
     ensures { λ r. ⌜ Thins c (now (pre .entry)) (now (place .entry)) (now (excited .entry)) r ⌝ }
 {
-    if c.machines <= FEW {
+    if c.machines <= FEW_MACHINES {
         let mut sets = [0u64; FEW_WORDS];
         let mut below = [FULL_WORD; FEW_WORDS];
         return thin(c, place, excited, pre, &mut sets, &mut below);

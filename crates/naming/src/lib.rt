@@ -3,9 +3,14 @@ ghost use mathlib.Core.Path.{_≡_};
 ghost use Rattle.model.specs.Services as Services;
 ghost use Rattle.reader.specs.Tables.{verdictRefusal};
 ghost use Rattle.naming.specs.Parts.{NoPart, Named, PartOf};
+use lines::NO_STATE;
+use lines::UNPLACED;
+use model::MAX_EVENTS;
+use model::MAX_MACHINES;
+use model::MAX_TRANSITIONS;
 use model::Refusal;
 use reader::Verdict;
-use stages::read_as_far_as_7;
+use stages::read_rows_as_far_as_7;
 
 // Where a name stands in the text, or the refusal and the empty part at the text's beginning.
 pub struct NamePart {
@@ -28,15 +33,32 @@ fn no_part(why: Refusal) -> NamePart
 pub fn find_name(text: &[u8], event: usize) -> NamePart
     ensures { λ r. ⌜ Named (now (text .entry)) event r ⌝ }
 {
-    let reading = read_as_far_as_7(text);
-    let verdict = reading.verdict;
+    let mut name_at = [0usize; MAX_EVENTS];
+    let mut name_len = [0usize; MAX_EVENTS];
+    let mut source = [0u8; MAX_TRANSITIONS];
+    let mut label = [0u8; MAX_TRANSITIONS];
+    let mut target = [0u8; MAX_TRANSITIONS];
+    let mut sizes = [0usize; MAX_MACHINES];
+    let mut duplicate = [NO_STATE; MAX_MACHINES];
+    let mut place = [UNPLACED; 4096];
+    let read = read_rows_as_far_as_7(
+        text,
+        &mut name_at,
+        &mut name_len,
+        &mut source,
+        &mut label,
+        &mut target,
+        &mut sizes,
+        &mut duplicate,
+        &mut place,
+    );
+    let verdict = read.verdict;
     if let Verdict::Refused(why) = verdict {
         return no_part(why);
     }
-    let tables = reading.tables;
-    if event < tables.events {
-        let from = tables.name_at[event];
-        let end = from + tables.name_len[event];
+    if event < read.counts.events {
+        let from = name_at[event];
+        let end = from + name_len[event];
         NamePart {
             verdict: Verdict::Passed,
             from,

@@ -235,7 +235,7 @@ fn name_size(from: usize, to: usize) -> usize
     if size <= 16 { size } else { 0 }
 }
 
-// The entry of a name's numbers in a table of hints.
+// The entry of a name's numbers in a table of hints, by a multiplicative hash.
 fn hint_slot(high: u64, low: u64) -> usize
     ensures { λ r. ⌜ r < 1024 ⌝ }
 {
@@ -292,6 +292,7 @@ fn verified_step<'a>(
     requires { ⌜ at + 40 ≤ length (now s) ⌝ }
     ensures { λ r. ⌜ ReadsQuickly (now (s .entry)) at n count (now («len» .entry)) (now («high» .entry)) (now («low» .entry)) r ⌝ }
 {
+    // byte 10 is the 13th byte of the shortest step line, and the 32nd of the longest
     let end = at + 12 + guess_end(s, at + 12);
     let next = end + 1;
     let a = figure_at(s, at + 6);

@@ -42,7 +42,7 @@ pub record DistinctRows (es : List Name) (count : ℕ) (lens highs lows : List �
   pub rows : NameRows es count lens highs lows
   pub once : distinct es ≡ true
 
--- the rows hold names
+-- the rows hold names, none of them twice
 pub record Declares (count : ℕ) (lens highs lows : List ℕ) : Type 0 where
   pub names : List Name
   pub held : DistinctRows names count lens highs lows
@@ -195,7 +195,7 @@ noSteps = transitionRows (replicate 1024 0) (replicate 1024 0) (replicate 1024 0
 abbrev pub noMachines : MachineRows
 noMachines = machineRows (replicate 16 0) (replicate 16 256) (replicate 4096 255)
 
--- counts and rows as one value
+-- counts and the rows of each section as one value
 abbrev pub joined : Counts → List ℕ → List ℕ → TransitionRows → MachineRows → Tables
 joined c ats lens steps machines =
     tablesIn c ats lens (steps .source) (steps .event) (steps .target) (machines .sizes) (machines .duplicate) (machines .places)

@@ -74,13 +74,13 @@ pub struct Counts {
     pub machines: usize,
 }
 
-// The answer to a text whose rows are lent. Refused, its counts are all 0, and what the rows hold is left open.
+// The answer to a text whose rows are lent. Refused by 1 to 3, its counts are all 0, and what the rows hold is left open.
 pub struct Counted {
     pub verdict: Verdict,
     pub counts: Counts,
 }
 
-// The answer to a text. Refused, its tables are all 0.
+// The answer to a text. Refused by 1 to 3, its tables are all 0.
 pub struct Reading {
     pub verdict: Verdict,
     pub tables: Tables,
@@ -116,7 +116,7 @@ fn refused(why: Refusal) -> Reading
     }
 }
 
-// The first of the names with this length and these bytes; their count if there is none. Names share beginnings, so their last bytes are compared first.
+// The first of the names with this length and these bytes; their count if there is none. Names share beginnings, so the bytes after the eighth are compared first.
 fn find_name<'a>(
     len: &'a [usize; MAX_EVENTS],
     high: &'a [u64; MAX_EVENTS],

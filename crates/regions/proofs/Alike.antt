@@ -22,6 +22,9 @@ use Rattle.regions.specs.Crossings.{agreeing}
 abbrev pub Alike : Crossing → Crossing → Type 0
 Alike a b = ((a .pre ≡ a .post) × (b .pre ≡ b .post)) ⊎ ((a .pre ≡ b .pre) × (a .post ≡ b .post))
 
+pub apart : (x y : ℕ) → T (not (eqb x y)) → ¬ (x ≡ y)
+apart x y n q = contra (eqb x y) n (eqb-of x y q)
+
 module _ (a b : Crossing) where
   pub agreeing-alike : T (agreeing a b) → Alike a b
   unfolding agreeing
@@ -100,9 +103,6 @@ module _ (ts : TransitionSystem) (m : Machine) (b : Within ts) (g : Placed ts m)
       → Alike (through m t) (through m u)
   uniform-alike h t u kt ku et eu = go (dec (eqb (placeOf m (t .source)) (placeOf m (t .target)))) (dec (eqb (placeOf m (u .source)) (placeOf m (u .target))))
     where
-      apart : (x y : ℕ) → T (not (eqb x y)) → ¬ (x ≡ y)
-      apart x y n q = contra (eqb x y) n (eqb-of x y q)
-
       like : (x y : Transition) → List·Memᴰ x (ts .transitions) → List·Memᴰ y (ts .transitions) → x .event ≡ e → y .event ≡ e → T (not (eqb (placeOf m (x .source)) (placeOf m (x .target))))
           → (placeOf m (y .source) ≡ placeOf m (x .source)) × (placeOf m (y .target) ≡ placeOf m (x .target))
       like x y kx ky qx qy n = (

@@ -31,9 +31,6 @@ module _ {P : ℕ → Type 0} {n : ℕ} where
   flag-more {k} a b f l h =
       record { most = omega arith; each = λ q. below-more _ k (f .each (T-true a (and-l a b (T-is (a && b) q)))) (h (and-r a b (T-is (a && b) q))) }
 
-pub apart : (x y : ℕ) → T (not (eqb x y)) → ¬ (x ≡ y)
-apart x y t q = contra (eqb x y) t (eqb-of x y q)
-
 -- the test of two crossings without a branch
 pub lane-test : (a b p q : ℕ) → T ((eqb a p && eqb b q) || (eqb a b && eqb p q)) → T (agreeing (record { pre = a; post = b }) (record { pre = p; post = q }))
 lane-test a b p q t = alike-agreeing (record { pre = a; post = b }) (record { pre = p; post = q }) (go (or-e (eqb a p && eqb b q) (eqb a b && eqb p q) t))

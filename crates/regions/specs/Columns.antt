@@ -21,7 +21,7 @@ pub record Lane (place : List ℕ) (n : ℕ) (columns : List ℕ) (m : ℕ) : Ty
   pub places : (x : ℕ) → x < n → entry columns (x * 16 + m) ≡ entry place (m * 256 + x)
   pub placed : (x : ℕ) → x < n → ¬ (entry place (m * 256 + x) ≡ 255)
 
--- lane m is put into the columns, and the others are as they were
+-- lane m is put into the columns, and the lanes before it are as they were
 pub record PutLane (place : List ℕ) (n m : ℕ) (columns columns2 : List ℕ) : Type 0 where
   pub size : length columns2 ≡ length columns
   pub places : (x : ℕ) → x < n → entry columns2 (x * 16 + m) ≡ entry place (m * 256 + x)

@@ -32,7 +32,7 @@ pub const NOT_ON: u8 = 255;
 pub const MOVES: usize = 1024;
 
 // The most states whose columns take 256 entries.
-const SMALL: usize = 16;
+const FEW_STATES: usize = 16;
 
 // A position in a row of positions as an index, and an index as such a position.
 fn position(x: u16) -> usize
@@ -205,7 +205,7 @@ fn check_in_turn<'a>(
 }
 
 // 8: no machine lists a state twice.
-fn single(duplicate: &[usize], machines: usize) -> bool
+fn none_twice(duplicate: &[usize], machines: usize) -> bool
     requires { ⌜ machines ≤ length (now duplicate) ⌝ }
     ensures { λ r. ⌜ (r ≡ true → (m : ℕ) → m < machines → entry (now (duplicate .entry)) m ≡ 256) ⌝ }
 {
@@ -337,7 +337,7 @@ fn agree_at_once<'a>(
     requires { ⌜ (c .machines ≤ 16) × (c .states ≤ 256) × (length (now place) ≡ 4096) ⌝ }
     ensures { λ r. ⌜ (r ≡ true → AlikeAtOnce (now (source .entry)) (now (event .entry)) (now (target .entry)) (now (place .entry)) (now (first .entry)) (c .states) (c .machines) (c .transitions)) ⌝ }
 {
-    if c.states <= SMALL {
+    if c.states <= FEW_STATES {
         let mut columns = [0u8; 256];
         return agree_in(c, source, event, target, place, first, &mut columns);
     }
@@ -405,7 +405,7 @@ fn pass_at_once<'a>(
     requires { ⌜ Checkable c (now source) (now event) (now target) (now duplicate) (now place) (now pre) (now post) ⌝ }
     ensures { λ r. ⌜ PassesAtOnce c (now (source .entry)) (now (event .entry)) (now (target .entry)) (now (duplicate .entry)) (now (place .entry)) r (now (pre .exit)) (now (post .exit)) ⌝ }
 {
-    if !single(duplicate, c.machines) {
+    if !none_twice(duplicate, c.machines) {
         return false;
     }
     let none = short(c.transitions);

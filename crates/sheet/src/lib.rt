@@ -46,7 +46,7 @@ fn place_len(n: u8) -> u8
 }
 
 // Machine m is one of the machines, and an event with this pre-place is on it.
-fn on(pre: u8, m: u8, machines: u8) -> bool
+fn is_on(pre: u8, m: u8, machines: u8) -> bool
     ensures { λ r. ⌜ r ≡ (ltb m machines && ltb pre 64) ⌝ }
 {
     if m < machines {
@@ -70,7 +70,7 @@ fn event_len(name: usize, pre: &[u8], post: &[u8], e: usize, machines: u8) -> us
     while m < MAX_MACHINES {
         let q = pre[from + m];
         let both = place_len(q) + place_len(post[from + m]);
-        if on(q, lane, machines) {
+        if is_on(q, lane, machines) {
             moves += 1;
             figures += both;
         }
@@ -135,7 +135,7 @@ pub fn sheet_len<'a>(
 
 const LONGEST_NAME: usize = 16;
 
-// A word by way of a copy: its bytes are all read before the first is written.
+// A word by way of a copy. The compiler does not know that text and buffer lie apart; so it makes one load and one store.
 fn write_copied(word: &[u8], out: &mut [u8], at: usize) -> usize
     requires { ⌜ (length (now word) ≡ 16) × (at + 16 ≤ length (now out)) ⌝ }
     ensures { λ r. ⌜ Writes (now (word .entry)) at (now (out .entry)) r (now (out .exit)) ⌝ }

@@ -17,7 +17,6 @@ use Rattle.model.proofs.Laws.{orElse-none}
 use Rattle.reader.specs.declared.Verdict.{Verdict}
 use Rattle.reader.specs.declared.Verdict.the-variants.{Refused, Passed}
 use Rattle.reader.specs.declared.Tables.{Tables}
-use Rattle.reader.specs.declared.Reading.{Reading}
 use Rattle.reader.specs.Tables.{verdictRefusal, tablesOf, tablesIn}
 use Rattle.reader.specs.declared.Counts.{Counts}
 use Rattle.reader.specs.Told.{systemOf, MachinesTold, Told}
@@ -32,7 +31,7 @@ use Rattle.closure.specs.Covers.{CountsBounded, CoverTold, CoverJudged}
 use Rattle.checker.specs.Order.{refusalTo10, CheckedTo10}
 use Rattle.checker.proofs.Verdicts.{refuses, lets-pass, no-excitations}
 use Rattle.lines.specs.Rows.{row}
-use Rattle.stages.specs.Stages.{Held, Sized, ReadAsFarAs7, Fresh, Past10, ReadAsFarAs10, Judged, ReadAsFarAs12}
+use Rattle.stages.specs.Stages.{Held, Sized, ReadAsFarAs7, RowsAsFarAs7, Fresh, Past10, ReadAsFarAs10, Judged, ReadAsFarAs12}
 use Rattle.stages.proofs.Checking.{was-passed, refused-as, unread-7, refusal-7, passed-7, unread-10, refusal-10, passed-10, refused-12, refusal-12, passed-12}
 
 -- ---- what the reader answers
@@ -99,7 +98,7 @@ module _ {s : List ℕ} {r : Verdict} {c : Counts} {ats lens sources events targ
 -- ---- what 4 to 7 answer
 
 -- refused by 1 to 3
-pub refused-to-3 : {s : List ℕ} {r : Reading} {why : D.Refusal} → verdictRefusal (r .verdict) ≡ refusalOf (read s) → r .verdict ≡ Refused why → ReadAsFarAs7 s r
+pub refused-to-3 : {s : List ℕ} {r : Verdict} {p : Tables} {why : D.Refusal} → verdictRefusal r ≡ refusalOf (read s) → r ≡ Refused why → ReadAsFarAs7 s r p
 unfolding verdictRefusal
 refused-to-3 {s} {why = why} h e =
     let q = ap verdictRefusal e in
@@ -112,11 +111,16 @@ module _ {s : List ℕ} {p : Tables} (h : Held (read s) s p) where
 
   -- the verdict on the rows' transition system is that on the text
   pub judged-7 : (r : Verdict) → verdictRefusal r ≡ systemRefusal (systemOf (systemRows (countsOf p) (p .source) (p .event) (p .target)))
-      → ReadAsFarAs7 s (record { verdict = r; tables = p })
+      → ReadAsFarAs7 s r p
   unfolding systemOf
   judged-7 r e =
       let q : verdictRefusal r ≡ systemRefusal (system (h .value)) = e ∙ ap systemRefusal (h .told .tells-system) in
       record { verdict = q ∙ sym (refusal-7 s (h .value) (h .passes)); held = λ n. held-7 (sym q ∙ n) }
+
+-- the same of rows that are lent
+pub rows-to-3 : {s : List ℕ} {r : Verdict} {p : Tables} {why : D.Refusal} → verdictRefusal r ≡ refusalOf (read s) → r ≡ Refused why → RowsAsFarAs7 s r p
+unfolding verdictRefusal
+rows-to-3 {why = why} h e = record { reading = refused-to-3 h e; sized = λ n. refuses why (sym (ap verdictRefusal e) ∙ n) }
 
 -- ---- what 4 to 10 answer
 

@@ -1,2 +1,2 @@
--- `Stages`: what is known of a text once it is read, once it is past 7, and once it is past 12.
+-- `Stages`: what is known of a text once it is read, once it is past 7, past 10, and past 12.
 pub mod Stages

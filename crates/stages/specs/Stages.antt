@@ -9,7 +9,6 @@ use Rattle.model.specs.Text.{Input, system, read}
 use Rattle.model.specs.Machine.{coverRefusal}
 use Rattle.model.specs.Services.{asFarAs7, asFarAs10, asFarAs12}
 use Rattle.reader.specs.declared.Tables.{Tables}
-use Rattle.reader.specs.declared.Reading.{Reading}
 use Rattle.reader.specs.declared.Verdict.{Verdict}
 use Rattle.reader.specs.Tables.{verdictRefusal}
 use Rattle.reader.specs.Told.{Told}
@@ -27,16 +26,6 @@ pub record Held (checked : Checked Input) (s : List ℕ) (p : Tables) : Type 0 w
   pub bounds : Bounded p
   pub names : NamesInside s (p .«name_at») (p .«name_len») (p .events)
 
--- the verdict is that of the check as far as 7; if the text passes, the rows hold its value
-pub record ReadAsFarAs7 (s : List ℕ) (r : Reading) : Type 0 where
-  pub verdict : verdictRefusal (r .verdict) ≡ refusalOf (asFarAs7 s)
-  pub held : verdictRefusal (r .verdict) ≡ none → Held (asFarAs7 s) s (r .tables)
-
--- the rows of moves and excitation sets that are lent for the check as far as 10: of their full size, with no state in any set
-pub record Fresh (pre post excited : List ℕ) : Type 0 where
-  pub moves : MoveRows pre post
-  pub excitations : Excitations [] excited
-
 -- the rows have their full sizes
 pub record Sized (p : Tables) : Type 0 where
   pub name-places : length (p .«name_at») ≡ 64
@@ -47,6 +36,21 @@ pub record Sized (p : Tables) : Type 0 where
   pub place-counts : length (p .sizes) ≡ 16
   pub duplicates : length (p .duplicate) ≡ 16
   pub places : length (p .place) ≡ 4096
+
+-- the verdict is that of the check as far as 7; if the text passes, the rows hold its value
+pub record ReadAsFarAs7 (s : List ℕ) (r : Verdict) (p : Tables) : Type 0 where
+  pub verdict : verdictRefusal r ≡ refusalOf (asFarAs7 s)
+  pub held : verdictRefusal r ≡ none → Held (asFarAs7 s) s p
+
+-- the same of rows that are lent
+pub record RowsAsFarAs7 (s : List ℕ) (r : Verdict) (p : Tables) : Type 0 where
+  pub reading : ReadAsFarAs7 s r p
+  pub sized : verdictRefusal r ≡ none → Sized p
+
+-- the rows of moves and excitation sets that are lent for the check as far as 10: of their full size, with no state in any set
+pub record Fresh (pre post excited : List ℕ) : Type 0 where
+  pub moves : MoveRows pre post
+  pub excitations : Excitations [] excited
 
 -- the text is read, its value is past 10, and the rows tell the moves and places of its machines and the excitation sets
 pub record Past10 (s : List ℕ) (p : Tables) (pre post excited : List ℕ) : Type 0 where

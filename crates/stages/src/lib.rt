@@ -1,7 +1,7 @@
 // A text read and checked as far as a row of document 01's table: what a service begins with.
 ghost use Rattle.reader.specs.Tables.{tablesIn};
 ghost use Rattle.reader.specs.Lent.{FreshRows};
-ghost use Rattle.stages.specs.Stages.{ReadAsFarAs7, Fresh, ReadAsFarAs10, ReadAsFarAs12};
+ghost use Rattle.stages.specs.Stages.{ReadAsFarAs7, RowsAsFarAs7, Fresh, ReadAsFarAs10, ReadAsFarAs12};
 use checker::check_as_far_as_10;
 use closure::check_cover;
 use model::MAX_EVENTS;
@@ -18,7 +18,7 @@ use transition_system::check_transition_system;
 
 // The text's rows, and its refusal as far as 7.
 pub fn read_as_far_as_7(text: &[u8]) -> Reading
-    ensures { λ r. ⌜ ReadAsFarAs7 (now (text .entry)) r ⌝ }
+    ensures { λ r. ⌜ ReadAsFarAs7 (now (text .entry)) (r .verdict) (r .tables) ⌝ }
 {
     let reading = read(text);
     let form = reading.verdict;
@@ -42,6 +42,42 @@ pub fn read_as_far_as_7(text: &[u8]) -> Reading
         &mut excited,
     );
     Reading { verdict, tables }
+}
+
+// The same in rows that are lent.
+pub fn read_rows_as_far_as_7(
+    text: &[u8],
+    name_at: &mut [usize; MAX_EVENTS],
+    name_len: &mut [usize; MAX_EVENTS],
+    source: &mut [u8; MAX_TRANSITIONS],
+    event: &mut [u8; MAX_TRANSITIONS],
+    target: &mut [u8; MAX_TRANSITIONS],
+    sizes: &mut [usize; MAX_MACHINES],
+    duplicate: &mut [usize; MAX_MACHINES],
+    place: &mut [u8; 4096],
+) -> Counted
+    requires { ⌜ FreshRows (now «name_at») (now «name_len») (now source) (now event) (now target) (now sizes) (now duplicate) (now place) ⌝ }
+    ensures { λ r. ⌜ RowsAsFarAs7 (now (text .entry)) (r .verdict) (tablesIn (r .counts) (now («name_at» .exit)) (now («name_len» .exit)) (now (source .exit)) (now (event .exit)) (now (target .exit)) (now (sizes .exit)) (now (duplicate .exit)) (now (place .exit))) ⌝ }
+{
+    let read = read_rows(
+        text,
+        name_at,
+        name_len,
+        source,
+        event,
+        target,
+        sizes,
+        duplicate,
+        place,
+    );
+    let form = read.verdict;
+    if let Verdict::Refused(_) = form {
+        return read;
+    }
+    let counts = read.counts;
+    let mut excited = [0u64; EXCITATION_WORDS];
+    let verdict = check_transition_system(counts, source, event, target, &mut excited);
+    Counted { verdict, counts }
 }
 
 // The text's refusal as far as 10. Passed, the rows have what it holds, its machines' moves and the excitation sets.

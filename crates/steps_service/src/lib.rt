@@ -7,30 +7,52 @@ ghost use Rattle.model.specs.Services as Services;
 ghost use Rattle.answers.specs.Answers.{answered};
 ghost use Rattle.steps_service.specs.Listing.{writtenBy, Lists};
 use answers::Answer;
+use lines::NO_STATE;
+use lines::UNPLACED;
 use listing::NUMBERS;
 use listing::fill;
 use listing::list_transitions;
+use model::MAX_EVENTS;
+use model::MAX_MACHINES;
+use model::MAX_TRANSITIONS;
 use model::Refusal;
 use model::Transition;
 use reader::Verdict;
-use stages::read_as_far_as_7;
+use stages::read_rows_as_far_as_7;
 
 // What Steps answers where `room` records are lent, and the transitions' numbers if they fit.
 fn list(text: &[u8], room: usize, row: &mut [u8]) -> Answer
     requires { ⌜ length (now row) ≡ 3072 ⌝ }
     ensures { λ r. ⌜ Lists (now (text .entry)) room (now (row .exit)) r ⌝ }
 {
-    let reading = read_as_far_as_7(text);
-    let verdict = reading.verdict;
+    let mut name_at = [0usize; MAX_EVENTS];
+    let mut name_len = [0usize; MAX_EVENTS];
+    let mut source = [0u8; MAX_TRANSITIONS];
+    let mut event = [0u8; MAX_TRANSITIONS];
+    let mut target = [0u8; MAX_TRANSITIONS];
+    let mut sizes = [0usize; MAX_MACHINES];
+    let mut duplicate = [NO_STATE; MAX_MACHINES];
+    let mut place = [UNPLACED; 4096];
+    let read = read_rows_as_far_as_7(
+        text,
+        &mut name_at,
+        &mut name_len,
+        &mut source,
+        &mut event,
+        &mut target,
+        &mut sizes,
+        &mut duplicate,
+        &mut place,
+    );
+    let verdict = read.verdict;
     if let Verdict::Refused(why) = verdict {
         return Answer::Refused(why);
     }
-    let tables = reading.tables;
-    let needed = tables.transitions;
+    let needed = read.counts.transitions;
     if room < needed {
         return Answer::Refused(Refusal::BufferTooShort { needed });
     }
-    list_transitions(&tables.source, &tables.event, &tables.target, needed, row);
+    list_transitions(&source, &event, &target, needed, row);
     Answer::Accepted { size: needed }
 }
 

@@ -144,7 +144,7 @@ fn successors_of(successors: &[u64], states: StateSet) -> StateSet
     }
 }
 
-// The states that are reached. Those that wait are followed together, so that none of them has to wait for what another finds.
+// The states that are reached. Those that wait are followed together: no load depends on what another of them finds.
 fn reached(successors: &[u64], initial: u8) -> StateSet
     requires { ⌜ Closed (now successors) × Has (now successors) initial ⌝ }
     ensures { λ r. ⌜ ((ts : TransitionSystem) → ts .initial ≡ initial → Successors (ts .transitions) (now (successors .entry)) → Reaches ts r) ⌝ }

@@ -42,7 +42,7 @@ pub fn figure_len(n: usize) -> usize
     }
 }
 
-// A number up to 999. Each digit is stored, a leading zero too, which the digit after it overwrites: no branch.
+// A number up to 999. Each digit is stored, a leading zero too, which the digit after it overwrites: so no store hangs on a branch.
 pub fn write_figure(n: usize, out: &mut [u8], at: usize) -> usize
     requires { ⌜ (n ≤ 999) × (at + length (digits n) ≤ length (now out)) ⌝ }
     ensures { λ r. ⌜ Writes (digits n) at (now (out .entry)) r (now (out .exit)) ⌝ }

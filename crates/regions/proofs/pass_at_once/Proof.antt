@@ -16,8 +16,8 @@ use Rattle.regions.proofs.AtOnce.{comparable, leading, all-pass}
 use Rattle.regions.proofs.pass_at_once.Statement.{statement}
 use Rattle.regions.proofs.pass_at_once.Tie as tie
 
--- the places of the code before a need: the call, seen from the answers of `single` and `first_by_event`
-abbrev entered : tie.After-single → tie.Start
+-- the places of the code before a need: the call, seen from the answers of `none_twice` and `first_by_event`
+abbrev entered : tie.After-none-twice → tie.Start
 entered c = c .before .before .before .before .before .before .before .before
 
 abbrev started : tie.After-first-by-event → tie.Start
@@ -33,8 +33,8 @@ no-answer : (c : tie.Start)
     (now (c .args .pre)) (now (c .args .post))
 no-answer c = record { rows = c .pre .rows; passed = λ q. absurd (false≢true q) }
 
-single-requires : tie.Need-single-requires
-single-requires c κs = search needs
+none-twice-requires : tie.Need-none-twice-requires
+none-twice-requires c κs = search needs
 
 returns : tie.Need-returns
 returns c = no-answer (entered (c .before))
@@ -98,7 +98,7 @@ returns-3 c =
     record {
       rows = p .put-moves .ensures .rows;
       passed = λ _ ats lens sizes b. all-pass (tables s ats lens sizes) b (s .pre .used) _ (f .first-by-event .ensures)
-          (f .before .before .before .before .single .ensures (not-false _ (f .before .before .before .if1 .left)))
+          (f .before .before .before .before .none-twice .ensures (not-false _ (f .before .before .before .if1 .left)))
           (e .before .agree-at-once .ensures (not-false _ (e .if2 .left)))
           (p .put-moves .ensures);
     }
@@ -107,7 +107,7 @@ pub pass-at-once-spec : {M : Type 1} → statement M
 pass-at-once-spec =
     tie.close
     (tie.spec
-    single-requires
+    none-twice-requires
     returns
     short-requires
     slice-aggregate-first-by-event

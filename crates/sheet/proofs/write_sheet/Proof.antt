@@ -1,17 +1,14 @@
 -- `sheet::write_sheet` meets its contract: the first line, then a line for each machine. The laws are in `Lining`.
-use Prim.Native.Nat.{_-_, _≤_}
+use Prim.Native.Nat.{_-_}
 use native.Mathlib.Omega.{arith}
-use mathlib.Core.Path.{_≡_, ap, _∙_}
-use mathlib.Core.List.{[]}
+use mathlib.Core.Path.{ap, _∙_}
 use borrow.Author.Needs.{needs}
 use denote.Ref.{now}
-use lib.ListN.{length}
 use lib.Seq.{sets}
 use Rattle.model.specs.Bytes.{bytes}
 use Rattle.reader.specs.declared.Tables.{Tables}
 use Rattle.writers.specs.Written.{Writes}
 use Rattle.writers.proofs.Writing.{writes-append, writes-length}
-use Rattle.sheet.specs.Written.{rowSheet}
 use Rattle.sheet.specs.Rows.{sheetRows}
 use Rattle.sheet.proofs.Within.{Room, room-first, room-second, room-third, all-three}
 use Rattle.sheet.proofs.Lining.{title, title-within, headOf, movesOf, Lined, lined-none, lined-add, lined-end, line-room}

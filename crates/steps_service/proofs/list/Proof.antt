@@ -1,68 +1,77 @@
 -- `steps_service::list` meets its contract: each answer is a law of `Listing` at what the calls have said.
-use Prim.Native.Nat.{ℕ}
-use mathlib.Core.List.{List}
 use native.Mathlib.Omega.{arith}
+use mathlib.Core.Path.{sym}
 use borrow.Author.Needs.{needs}
-use denote.Ref.{now}
-use Rattle.model.specs.Services.{asFarAs7}
 use Rattle.checker.proofs.Verdicts.{lets-pass}
-use Rattle.stages.specs.Stages.{Held}
 use Rattle.steps_service.proofs.Listing.{lists-refusal, lists-too-few, lists-all}
 use Rattle.steps_service.proofs.list.Statement.{statement}
 use Rattle.steps_service.proofs.list.Tie as tie
 
-abbrev bytes : tie.After-enum-told → List ℕ
-bytes c = now (c .before .before .before .before .before .args .text)
+-- from the place past 7 back to where the text was read
+abbrev read : tie.After-enum-told → tie.After-read-rows-as-far-as-7
+read c = c .before .before
 
--- the text is past 7, and the rows hold its value
-held : (c : tie.After-enum-told) → Held (asFarAs7 (bytes c)) (bytes c) (c .before .before .read-as-far-as-7 .result .tables)
-held c = c .before .before .read-as-far-as-7 .ensures .held (lets-pass (c .enum-told .given .1))
-
--- from the call that lists back to the test for room, and to the place past 7
-abbrev room : tie.After-list-transitions-arg7 → tie.Else1
-room c = c .before .before .before .before .before .before .before .before
-
-abbrev listing : tie.After-list-transitions-arg7 → tie.After-enum-told
-listing c = room c .before .before
-
-read-as-far-as-7-requires : tie.Need-read-as-far-as-7-requires
-read-as-far-as-7-requires c κs = search needs
+read-rows-as-far-as-7-requires : tie.Need-read-rows-as-far-as-7-requires
+read-rows-as-far-as-7-requires c κs = search needs
 
 enum-known-verdict : tie.Need-enum-known-verdict
 enum-known-verdict c = search needs
 
 returns : tie.Need-returns
-returns c = lists-refusal (c .before .before .before .read-as-far-as-7 .ensures .verdict) (c .before .verdict .given .1)
+returns c = lists-refusal (c .before .before .before .read-rows-as-far-as-7 .ensures .reading .verdict) (c .before .verdict .given .1)
 
 enum-told : tie.Need-enum-told
 enum-told c = search needs
 
 returns-2 : tie.Need-returns-2
-returns-2 c = lists-too-few (held (c .before .before)) (c .if1 .taken)
+returns-2 c =
+    let past = c .before in
+    lists-too-few (read past .read-rows-as-far-as-7 .ensures .reading .held (lets-pass (past .enum-told .given .1))) (c .if1 .taken)
+
+slice-aggregate-list-transitions : tie.Need-slice-aggregate-list-transitions
+slice-aggregate-list-transitions c =
+    let past = c .before .before in
+    sym (read past .read-rows-as-far-as-7 .ensures .sized (lets-pass (past .enum-told .given .1)) .sources)
+
+slice-aggregate-list-transitions-2 : tie.Need-slice-aggregate-list-transitions-2
+slice-aggregate-list-transitions-2 c =
+    let past = c .before .before .before in
+    sym (read past .read-rows-as-far-as-7 .ensures .sized (lets-pass (past .enum-told .given .1)) .events)
+
+slice-aggregate-list-transitions-3 : tie.Need-slice-aggregate-list-transitions-3
+slice-aggregate-list-transitions-3 c =
+    let past = c .before .before .before .before in
+    sym (read past .read-rows-as-far-as-7 .ensures .sized (lets-pass (past .enum-told .given .1)) .targets)
 
 list-transitions-requires : tie.Need-list-transitions-requires
 list-transitions-requires c κs =
-    let h = held (listing c) .bounds .transitions in
-    (omega arith, omega arith, omega arith, omega arith)
+    let past = c .before .before .before .before .before in
+    let passed = lets-pass (past .enum-told .given .1) in
+    let z = read past .read-rows-as-far-as-7 .ensures .sized passed in
+    let h = read past .read-rows-as-far-as-7 .ensures .reading .held passed .bounds .transitions in
+    (omega (arith, h, z .sources), omega (arith, h, z .events), omega (arith, h, z .targets), omega (arith, h, c .before .before .before .before .before .before .before .before .before .before .before .before .before .before .before .before .before .before .pre))
 
 same-length : tie.Need-same-length
 same-length c = search needs
 
 returns-3 : tie.Need-returns-3
 returns-3 c =
-    let call = c .before .before in
-    let h = held (listing (call .before)) in
-    lists-all h (room (call .before) .if1 .left) (omega (arith, h .bounds .transitions)) (call .list-transitions .ensures)
+    let past = c .before .before .before .before .before .before .before .before in
+    let h = read past .read-rows-as-far-as-7 .ensures .reading .held (lets-pass (past .enum-told .given .1)) in
+    lists-all h (c .before .before .before .before .before .before .before .if1 .left) (omega (arith, h .bounds .transitions, c .before .before .before .before .before .before .before .before .before .before .before .before .before .before .before .before .before .before .before .before .before .pre, c .before .row .given)) (c .before .before .list-transitions .ensures)
 
 pub list-spec : {M : Type 1} → statement M
 list-spec =
     tie.close
     (tie.spec
-    read-as-far-as-7-requires
+    read-rows-as-far-as-7-requires
     enum-known-verdict
     returns
     enum-told
     returns-2
+    slice-aggregate-list-transitions
+    slice-aggregate-list-transitions-2
+    slice-aggregate-list-transitions-3
     list-transitions-requires
     same-length
     returns-3)

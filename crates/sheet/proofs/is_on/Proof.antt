@@ -1,8 +1,8 @@
--- `sheet::on` meets its contract.
+-- `sheet::is_on` meets its contract.
 use borrow.Author.Needs.{needs}
 use Rattle.sheet.proofs.Lengths.{on-yes, on-no}
-use Rattle.sheet.proofs.on.Statement.{statement}
-use Rattle.sheet.proofs.on.Tie as tie
+use Rattle.sheet.proofs.is_on.Statement.{statement}
+use Rattle.sheet.proofs.is_on.Tie as tie
 
 wide-requires : tie.Need-wide-requires
 wide-requires c κs = search needs
@@ -13,5 +13,5 @@ returns c = on-yes (c .before .if1 .taken) (c .wide .ensures .0)
 returns-2 : tie.Need-returns-2
 returns-2 c = on-no (c .before .args .pre) (c .if1 .left)
 
-pub on-spec : {M : Type 1} → statement M
-on-spec = tie.close (tie.spec wide-requires returns returns-2)
+pub is-on-spec : {M : Type 1} → statement M
+is-on-spec = tie.close (tie.spec wide-requires returns returns-2)

@@ -1,12 +1,12 @@
--- `regions::single` meets its contract.
+-- `regions::none_twice` meets its contract.
 use Prim.Native.Nat.{_-_}
 use native.Mathlib.Omega.{arith}
 use mathlib.Core.Path.{_≡_}
 use mathlib.Core.Bool.{false≢true}
 use Rattle.reader.specs.Told.{entry}
 use Rattle.reader.proofs.Searches.{Upto, upto-start, upto-more}
-use Rattle.regions.proofs.single.Statement.{statement}
-use Rattle.regions.proofs.single.Tie as tie
+use Rattle.regions.proofs.none_twice.Statement.{statement}
+use Rattle.regions.proofs.none_twice.Tie as tie
 
 abbrev Inv-loop : tie.InvT-loop
 Inv-loop duplicate machines m₀ m = Upto (λ j. entry duplicate j ≡ 256) machines m
@@ -38,8 +38,8 @@ loop-again c = upto-more (c .before .before .before .loop .inv) (c .before .befo
 returns-2 : tie.Need-returns-2 Inv-loop μ-loop
 returns-2 c = λ _ m l. c .before .loop .inv .each m (omega arith)
 
-pub single-spec : {M : Type 1} → statement M
-single-spec =
+pub none-twice-spec : {M : Type 1} → statement M
+none-twice-spec =
     tie.close
     (tie.spec
     Inv-loop
