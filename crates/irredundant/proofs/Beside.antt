@@ -78,7 +78,7 @@ module _ {ts : TransitionSystem} {ms : Decomposition} {pre post sets excited : L
     onBeside e = getD onAbove e false || onSome pre e k
 
     abbrev inAll : ℕ → ℕ → Bool
-    inAll e i = memberAt below (k * 64 + e) i && memberAt above e i
+    inAll e i = memberAt below (e * 16 + k) i && memberAt above e i
 
     on-same : (e : ℕ) → e < ts .events → onBeside e ≡ effective ts beside e
     unfolding effective
@@ -95,7 +95,7 @@ module _ {ts : TransitionSystem} {ms : Decomposition} {pre post sets excited : L
     inAll-past e i l b o = go (getD onAbove e false) refl
       where
         go : (t : Bool) → getD onAbove e false ≡ t → inAll e i ≡ false
-        go true q = rw (rows .past e i l b q) (and-false (memberAt below (k * 64 + e) i))
+        go true q = rw (rows .past e i l b q) (and-false (memberAt below (e * 16 + k) i))
         go false q =
             rw (before .common k e i low l, common-past told e i k b (omega arith) (sym (ap (λ (t : Bool). t || onSome pre e k) q) ∙ o))
 

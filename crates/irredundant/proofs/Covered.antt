@@ -38,10 +38,10 @@ module _ (pre below above : List ℕ) (onAbove : List Bool) (excited : List ℕ)
   off-all {r} h v q = rw (not-true (getD onAbove e false) h, sym v, not-true r q)
 
   abbrev beyond : ℕ → Bool
-  beyond i = (memberAt below (m * 64 + e) i && memberAt above e i) && not (memberAt excited e i)
+  beyond i = (memberAt below (e * 16 + m) i && memberAt above e i) && not (memberAt excited e i)
 
   -- what the calls gave: the sets of machine m and of those that are kept, what is common, the excitation set, what is left, and its lowest state
-  module _ (a b c x y : StateSet) (o : Found) (va : a ≡ setAt below (m * 64 + e)) (vb : b ≡ setAt above e)
+  module _ (a b c x y : StateSet) (o : Found) (va : a ≡ setAt below (e * 16 + m)) (vb : b ≡ setAt above e)
       (vc : (i : ℕ) → member c i ≡ (member a i && member b i)) (vx : x ≡ setAt excited e)
       (vy : (i : ℕ) → member y i ≡ (member c i && not (member x i))) (vo : stateFound o ≡ lowest (member y) 256) where
     lowest-left : stateFound o ≡ lowest beyond 256

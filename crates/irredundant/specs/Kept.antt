@@ -46,37 +46,37 @@ pub record ThinsBySets (pre sets excited : List ℕ) (machines events : ℕ) (r 
 unfoldable pub noneBelow : (ℕ → Bool) → ℕ → Bool
 noneBelow f n = not (isSome (lowest f n))
 
--- the rows have sets for so many machines
-pub record Sizes (machines : ℕ) (sets pre below : List ℕ) : Type 0 where
+-- the rows have sets for so many machines and events
+pub record Sizes (machines events : ℕ) (sets pre below : List ℕ) : Type 0 where
   pub sets-size : machines * 256 ≤ length sets
   pub pre-size : length pre ≡ 1024
-  pub below-size : machines * 256 ≤ length below
+  pub below-size : events * 64 ≤ length below
 
 -- the sizes of the rows of the kept machines
 pub record AboveSizes (above : List ℕ) (onAbove : List Bool) : Type 0 where
   pub above-size : length above ≡ 256
   pub on-size : length onAbove ≡ 64
 
--- the sizes of the rows that tell whether machine m is redundant
-pub record BesideSizes (m : ℕ) (pre below above : List ℕ) (onAbove : List Bool) (excited : List ℕ) : Type 0 where
+-- the sizes of the rows that tell whether a machine is redundant
+pub record BesideSizes (events : ℕ) (pre below above : List ℕ) (onAbove : List Bool) (excited : List ℕ) : Type 0 where
   pub pre-size : length pre ≡ 1024
-  pub below-size : m * 256 + 256 ≤ length below
+  pub below-size : events * 64 ≤ length below
   pub kept : AboveSizes above onAbove
   pub excited-size : length excited ≡ 256
 
 -- the sets of machine m + 1 are made from those of machine m, and those before are as they were
 pub record Extends (sets pre : List ℕ) (m events : ℕ) (old new : List ℕ) : Type 0 where
   pub size : length new ≡ length old
-  pub next : (e i : ℕ) → e < events → memberAt new (suc m * 64 + e) i ≡ (memberAt old (m * 64 + e) i && meets sets pre e m i)
-  pub before : (j i : ℕ) → j < suc m * 64 → memberAt new j i ≡ memberAt old j i
+  pub next : (e i : ℕ) → e < events → memberAt new (e * 16 + suc m) i ≡ (memberAt old (e * 16 + m) i && meets sets pre e m i)
+  pub before : (k e i : ℕ) → k < suc m → memberAt new (e * 16 + k) i ≡ memberAt old (e * 16 + k) i
 
 -- the first set of each event has all states
-pub record AllStates (row : List ℕ) : Type 0 where
-  pub full : (e i : ℕ) → e < 64 → memberAt row e i ≡ ltb i 256
+pub record AllStates (events : ℕ) (row : List ℕ) : Type 0 where
+  pub full : (e i : ℕ) → e < events → memberAt row (e * 16) i ≡ ltb i 256
 
--- set k * 64 + e has the states common to the pre-places of event e on the machines before k
+-- set e * 16 + k has the states common to the pre-places of event e on the machines before k
 pub record Below (sets pre : List ℕ) (machines events : ℕ) (row : List ℕ) : Type 0 where
-  pub common : (k e i : ℕ) → k < machines → e < events → memberAt row (k * 64 + e) i ≡ commonTo sets pre e k i
+  pub common : (k e i : ℕ) → k < machines → e < events → memberAt row (e * 16 + k) i ≡ commonTo sets pre e k i
 
 -- machine m is one of those that have an event and whose pre-places are met
 pub record Adds (sets pre : List ℕ) (m events : ℕ) (above : List ℕ) (onAbove : List Bool) (above2 : List ℕ) (onAbove2 : List Bool) : Type 0 where
@@ -89,7 +89,7 @@ pub record Adds (sets pre : List ℕ) (m events : ℕ) (above : List ℕ) (onAbo
 unfoldable pub coveredWithout : List ℕ → List ℕ → List ℕ → List Bool → List ℕ → ℕ → ℕ → Bool
 coveredWithout pre below above onAbove excited m e =
     (getD onAbove e false || onSome pre e m)
-    && noneBelow (λ i. (memberAt below (m * 64 + e) i && memberAt above e i) && not (memberAt excited e i)) 256
+    && noneBelow (λ i. (memberAt below (e * 16 + m) i && memberAt above e i) && not (memberAt excited e i)) 256
 
 -- machine m is redundant: without it there are others, and they cover every event
 abbrev pub redundant : List ℕ → List ℕ → List ℕ → List Bool → List ℕ → ℕ → ℕ → ℕ → Bool

@@ -12,6 +12,7 @@ use closure::is_effective;
 use closure::is_on;
 use closure::meet_pre;
 use model::MAX_EVENTS;
+use model::MAX_MACHINES;
 use model::Refusal;
 use reader::Counts;
 use reader::Verdict;
@@ -32,25 +33,21 @@ pub struct Kept {
 
 // The states common to the pre-places of each event on the machines before m + 1, from those on the machines before m.
 fn extend(sets: &[u64], pre: &[u8], m: usize, events: usize, below: &mut [u64])
-    requires { ⌜ (m < 15) × (events ≤ 64) × Sizes (m + 2) (now sets) (now pre) (now below) ⌝ }
+    requires { ⌜ (m < 15) × (events ≤ 64) × Sizes (m + 2) events (now sets) (now pre) (now below) ⌝ }
     ensures { λ _. ⌜ Extends (now (sets .entry)) (now (pre .entry)) m events (now (below .entry)) (now (below .exit)) ⌝ }
 {
-    let from = m * MAX_EVENTS;
     let mut e = 0;
     while e < events {
-        let common = load(below, from + e);
-        store(
-            below,
-            from + MAX_EVENTS + e,
-            meet_pre(common, sets, pre, m, e),
-        );
+        let at = e * MAX_MACHINES + m;
+        let common = load(below, at);
+        store(below, at + 1, meet_pre(common, sets, pre, m, e));
         e += 1;
     }
 }
 
-// At k * 64 + e the states common to the pre-places of event e on the machines before k.
+// At e * 16 + k the states common to the pre-places of event e on the machines before k.
 fn meet_below(sets: &[u64], pre: &[u8], machines: usize, events: usize, below: &mut [u64])
-    requires { ⌜ (machines ≤ 16) × (events ≤ 64) × Sizes machines (now sets) (now pre) (now below) × AllStates (now below) ⌝ }
+    requires { ⌜ (machines ≤ 16) × (events ≤ 64) × Sizes machines events (now sets) (now pre) (now below) × AllStates events (now below) ⌝ }
     ensures { λ _. ⌜ Below (now (sets .entry)) (now (pre .entry)) machines events (now (below .exit)) ⌝ }
 {
     let mut m = 1;
@@ -92,7 +89,7 @@ fn is_covered(
     m: usize,
     e: usize,
 ) -> bool
-    requires { ⌜ (m < 16) × (e < 64) × BesideSizes m (now pre) (now below) (now above) (now «on_above») (now excited) ⌝ }
+    requires { ⌜ (m < 16) × (e < 64) × BesideSizes (e + 1) (now pre) (now below) (now above) (now «on_above») (now excited) ⌝ }
     ensures { λ r. ⌜ r ≡ coveredWithout (now (pre .entry)) (now (below .entry)) (now (above .entry)) (now («on_above» .entry)) (now (excited .entry)) m e ⌝ }
 {
     if !on_above[e] {
@@ -100,7 +97,7 @@ fn is_covered(
             return false;
         }
     }
-    let common = meet(load(below, m * MAX_EVENTS + e), load(above, e));
+    let common = meet(load(below, e * MAX_MACHINES + m), load(above, e));
     let open = lowest(without(common, load(excited, e)));
     match open {
         Found::Nothing => true,
@@ -119,7 +116,7 @@ fn is_redundant(
     m: usize,
     events: usize,
 ) -> bool
-    requires { ⌜ (m < 16) × (events ≤ 64) × BesideSizes m (now pre) (now below) (now above) (now «on_above») (now excited) ⌝ }
+    requires { ⌜ (m < 16) × (events ≤ 64) × BesideSizes events (now pre) (now below) (now above) (now «on_above») (now excited) ⌝ }
     ensures { λ r. ⌜ r ≡ redundant (now (pre .entry)) (now (below .entry)) (now (above .entry)) (now («on_above» .entry)) (now (excited .entry)) others m events ⌝ }
 {
     if others < 1 {
@@ -144,7 +141,7 @@ fn drop_redundant(
     machines: usize,
     events: usize,
 ) -> Kept
-    requires { ⌜ (machines ≤ 16) × (events ≤ 64) × Sizes machines (now sets) (now pre) (now below) × (length (now excited) ≡ 256) ⌝ }
+    requires { ⌜ (machines ≤ 16) × (events ≤ 64) × Sizes machines events (now sets) (now pre) (now below) × (length (now excited) ≡ 256) ⌝ }
     requires { ⌜ Below (now sets) (now pre) machines events (now below) ⌝ }
     ensures { λ r. ⌜ ThinsBySets (now (pre .entry)) (now (sets .entry)) (now (excited .entry)) machines events r ⌝ }
 {
@@ -186,7 +183,7 @@ fn thin(
     below: &mut [u64],
 ) -> Reduction
     requires { ⌜ CountsBounded c × (length (now place) ≡ 4096) × (length (now excited) ≡ 256) ⌝ }
-    requires { ⌜ Sizes (c .machines) (now sets) (now pre) (now below) × PlaceSets (now place) (c .states) (length (now sets)) 0 (now sets) × AllStates (now below) ⌝ }
+    requires { ⌜ Sizes (c .machines) (c .events) (now sets) (now pre) (now below) × PlaceSets (now place) (c .states) (length (now sets)) 0 (now sets) × AllStates (c .events) (now below) ⌝ }
     ensures { λ r. ⌜ Thins c (now (pre .entry)) (now (place .entry)) (now (excited .entry)) r ⌝ }
 {
     let cover = check_cover_in(c, place, excited, pre, sets);
@@ -200,18 +197,38 @@ fn thin(
     Reduction::To(kept)
 }
 
-// 11 and 12 of all machines, and then what Thin keeps, by one row of sets. The rows are small where there are few machines, so that a small text does not clear
-// large ones.
+// Rows for so many events at most, of 16 sets each: the fewer the events, the less there is to clear.
+const FEW_EVENTS: usize = 4;
+
+const SOME_EVENTS: usize = 16;
+
+// Thin with a row of empty sets that is lent.
+fn thin_by_sets(c: Counts, place: &[u8], excited: &[u64], pre: &[u8], sets: &mut [u64]) -> Reduction
+    requires { ⌜ CountsBounded c × (length (now place) ≡ 4096) × (length (now excited) ≡ 256) × (length (now pre) ≡ 1024) ⌝ }
+    requires { ⌜ (c .machines * 256 ≤ length (now sets)) × PlaceSets (now place) (c .states) (length (now sets)) 0 (now sets) ⌝ }
+    ensures { λ r. ⌜ Thins c (now (pre .entry)) (now (place .entry)) (now (excited .entry)) r ⌝ }
+{
+    if c.events <= FEW_EVENTS {
+        let mut few = [FULL_WORD; 256];
+        return thin(c, place, excited, pre, sets, &mut few);
+    }
+    if c.events <= SOME_EVENTS {
+        let mut some = [FULL_WORD; 1024];
+        return thin(c, place, excited, pre, sets, &mut some);
+    }
+    let mut below = [FULL_WORD; 4096];
+    thin(c, place, excited, pre, sets, &mut below)
+}
+
+// 11 and 12 of all machines, and then what Thin keeps, by one row of sets.
 pub fn remove_redundant(c: Counts, place: &[u8], excited: &[u64], pre: &[u8]) -> Reduction
     requires { ⌜ CountsBounded c × (length (now place) ≡ 4096) × (length (now excited) ≡ 256) × (length (now pre) ≡ 1024) ⌝ }
     ensures { λ r. ⌜ Thins c (now (pre .entry)) (now (place .entry)) (now (excited .entry)) r ⌝ }
 {
     if c.machines <= FEW_MACHINES {
-        let mut sets = [0u64; FEW_WORDS];
-        let mut below = [FULL_WORD; FEW_WORDS];
-        return thin(c, place, excited, pre, &mut sets, &mut below);
+        let mut few = [0u64; FEW_WORDS];
+        return thin_by_sets(c, place, excited, pre, &mut few);
     }
     let mut sets = [0u64; PLACE_WORDS];
-    let mut below = [FULL_WORD; PLACE_WORDS];
-    thin(c, place, excited, pre, &mut sets, &mut below)
+    thin_by_sets(c, place, excited, pre, &mut sets)
 }

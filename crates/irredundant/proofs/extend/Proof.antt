@@ -7,28 +7,25 @@ use Rattle.irredundant.proofs.extend.Statement.{statement}
 use Rattle.irredundant.proofs.extend.Tie as tie
 
 abbrev Inv-loop : tie.InvT-loop
-Inv-loop sets pre m events below₀ from e₀ below e = Extending sets pre m events below₀ below e
+Inv-loop sets pre m events below₀ e₀ below e = Extending sets pre m events below₀ below e
 
 abbrev μ-loop : tie.MeasureT-loop
-μ-loop sets pre m events below₀ from e₀ below e = events - e
-
-mul-from : tie.Need-mul-from Inv-loop μ-loop
-mul-from c = search needs
+μ-loop sets pre m events below₀ e₀ below e = events - e
 
 loop-holds : tie.Need-loop-holds Inv-loop μ-loop
 loop-holds c = extend-start
 
-add-load : tie.Need-add-load Inv-loop μ-loop
-add-load c = search needs
+mul-at : tie.Need-mul-at Inv-loop μ-loop
+mul-at c = search needs
+
+add-at : tie.Need-add-at Inv-loop μ-loop
+add-at c = search needs
 
 load-requires : tie.Need-load-requires Inv-loop μ-loop
 load-requires c κs = search needs
 
 add-store : tie.Need-add-store Inv-loop μ-loop
 add-store c = search needs
-
-add-store-2 : tie.Need-add-store-2 Inv-loop μ-loop
-add-store-2 c = search needs
 
 meet-pre-requires : tie.Need-meet-pre-requires Inv-loop μ-loop
 meet-pre-requires c κs = search needs
@@ -48,7 +45,7 @@ loop-again c =
     let got = c .before .before .before .before .before in
     let inside = c .before .before .before .before .before .before .before in
     extend-more (got .load .result) (met .meet-pre .result)
-    (inside .before .before .before .before .before .pre .1) (inside .before .loop .inv) (inside .loop-test .taken)
+    (inside .before .before .before .before .before .pre .0) (inside .before .loop .inv) (inside .loop-test .taken)
     (got .load .ensures) (met .meet-pre .ensures) (omega arith) (c .before .before .store .ensures)
 
 same-length : tie.Need-same-length Inv-loop μ-loop
@@ -60,5 +57,5 @@ returns c = extend-end (c .before .loop .inv) (c .loop-test .left)
 pub extend-spec : {M : Type 1} → statement M
 extend-spec =
     tie.close
-    (tie.spec Inv-loop μ-loop mul-from loop-holds add-load load-requires add-store add-store-2 meet-pre-requires store-requires add-e loop-less
+    (tie.spec Inv-loop μ-loop loop-holds mul-at add-at load-requires add-store meet-pre-requires store-requires add-e loop-less
     loop-again same-length returns)

@@ -13,7 +13,7 @@ abbrev μ-loop : tie.MeasureT-loop
 μ-loop sets pre machines events below₀ m₀ below m = machines - m
 
 loop-holds : tie.Need-loop-holds Inv-loop μ-loop
-loop-holds c = below-start (c .before .before .before .pre .1) (c .before .before .before .pre .3)
+loop-holds c = below-start (c .before .before .before .pre .3)
 
 sub-extend : tie.Need-sub-extend Inv-loop μ-loop
 sub-extend c = search needs
@@ -30,7 +30,7 @@ loop-less c = search needs
 loop-again : tie.Need-loop-again Inv-loop μ-loop
 loop-again c =
     let inside = c .before .before .before .before in
-    below-more (inside .before .before .before .before .before .pre .1) (inside .before .loop .inv) (omega arith) (omega arith)
+    below-more (inside .before .loop .inv) (omega arith) (omega arith)
     (c .before .before .extend .ensures)
 
 same-length : tie.Need-same-length Inv-loop μ-loop
