@@ -16,6 +16,8 @@ mod others;
 mod peer;
 mod proved;
 mod refused;
+#[path = "../include/split.rs"]
+mod split;
 mod table;
 mod timing;
 
@@ -71,4 +73,8 @@ fn main() {
     refused(&no).print(markdown);
     about("Goals: no figure of a row is to be above `at most`.");
     goals::goals(&yes).print(markdown);
+    about(
+        "The library keeps nothing between calls and clears its rows at each, 19 KB on a-y, which uses less than 1; the peer \
+         keeps its rows. That takes longer than what is missed on a-y.",
+    );
 }

@@ -1,88 +1,13 @@
-//! The proved library: the functions of include/split.h, and safe ones over them.
+//! The proved library, called as include/split.rs has it.
 use crate::call::{again, Call, Program, Service, Told, SHEET, STEPS};
+use crate::split::{check, name, run, steps, thin, Answer, Name, Run, Set, Step};
 use std::hint::black_box;
 
-/// The first three fields of each answer of include/split.h.
-#[repr(C)]
-struct Refusal {
-    number: usize,
-    detail: usize,
-    second: usize,
-}
-
-#[repr(C)]
-#[derive(Clone, Copy, Default)]
-struct Step {
-    source: u8,
-    event: u8,
-    target: u8,
-}
-
-#[repr(C)]
-struct Answer {
-    refusal: Refusal,
-    size: usize,
-}
-
-#[repr(C)]
-struct Name {
-    refusal: Refusal,
-    from: usize,
-    size: usize,
-}
-
-#[repr(C)]
-struct Run {
-    refusal: Refusal,
-    blocked: usize,
-    ran: usize,
-    machine: usize,
-    places: [u8; 16],
-}
-
-#[repr(C)]
-struct Set {
-    refusal: Refusal,
-    machines: usize,
-    size: usize,
-}
-
-extern "C" {
-    fn split_check(text: *const u8, text_len: usize, out: *mut u8, out_len: usize) -> Answer;
-    fn split_steps(text: *const u8, text_len: usize, out: *mut Step, out_len: usize) -> Answer;
-    fn split_name(text: *const u8, text_len: usize, event: usize) -> Name;
-    fn split_run(text: *const u8, text_len: usize, events: *const u8, events_len: usize) -> Run;
-    fn split_thin(text: *const u8, text_len: usize) -> Set;
-}
-
-// A slice's own pointer and length are what each of them asks for.
-
-fn check(text: &[u8], out: &mut [u8]) -> Answer {
-    unsafe { split_check(text.as_ptr(), text.len(), out.as_mut_ptr(), out.len()) }
-}
-
-fn steps(text: &[u8], out: &mut [Step]) -> Answer {
-    unsafe { split_steps(text.as_ptr(), text.len(), out.as_mut_ptr(), out.len()) }
-}
-
-fn name(text: &[u8], event: usize) -> Name {
-    unsafe { split_name(text.as_ptr(), text.len(), event) }
-}
-
-fn run(text: &[u8], events: &[u8]) -> Run {
-    unsafe { split_run(text.as_ptr(), text.len(), events.as_ptr(), events.len()) }
-}
-
-fn thin(text: &[u8]) -> Set {
-    unsafe { split_thin(text.as_ptr(), text.len()) }
-}
-
-impl Refusal {
-    fn or(self, told: Told) -> Told {
-        match self.number {
-            0 => told,
-            number => Told::Refused([number, self.detail, self.second]),
-        }
+/// The answer, unless a refusal has a number.
+fn or(told: Told, refusal: [usize; 3]) -> Told {
+    match refusal[0] {
+        0 => told,
+        _ => Told::Refused(refusal),
     }
 }
 
@@ -101,24 +26,25 @@ impl Program for Proved {
     fn tell(&mut self, Call { text, service }: &Call) -> Option<Told> {
         Some(match service {
             Service::Check(lent) => {
-                let Answer { refusal, size } = check(text, &mut self.sheet[..*lent]);
-                refusal.or(Told::Sheet(self.sheet[..size].to_vec()))
+                let Answer { number, detail, second, size } = check(text, &mut self.sheet[..*lent]);
+                or(Told::Sheet(self.sheet[..size].to_vec()), [number, detail, second])
             }
             Service::Steps => {
-                let Answer { refusal, size } = steps(text, &mut self.steps);
-                refusal.or(Told::Steps(self.steps[..size].iter().map(|s| [s.source, s.event, s.target]).collect()))
+                let Answer { number, detail, second, size } = steps(text, &mut self.steps);
+                let listed = self.steps[..size].iter().map(|s| [s.source, s.event, s.target]).collect();
+                or(Told::Steps(listed), [number, detail, second])
             }
             Service::Name(event) => {
-                let Name { refusal, from, size } = name(text, *event);
-                refusal.or(Told::Name(text[from..from + size].to_vec()))
+                let Name { number, detail, second, from, size } = name(text, *event);
+                or(Told::Name(text[from..from + size].to_vec()), [number, detail, second])
             }
             Service::Run(events) => {
-                let Run { refusal, blocked, ran, machine, places } = run(text, events);
-                refusal.or(Told::Ran((blocked == 1).then_some((ran, machine)), places))
+                let Run { number, detail, second, blocked, ran, machine, places } = run(text, events);
+                or(Told::Ran((blocked == 1).then_some((ran, machine)), places), [number, detail, second])
             }
             Service::Thin => {
-                let Set { refusal, machines, size } = thin(text);
-                refusal.or(Told::Kept(machines, size))
+                let Set { number, detail, second, machines, size } = thin(text);
+                or(Told::Kept(machines, size), [number, detail, second])
             }
         })
     }

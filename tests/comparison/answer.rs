@@ -1,6 +1,6 @@
 //! What the independent program answers to a call, as it prints it and as the library has to tell it.
 use crate::call::Call;
-use crate::library::Step;
+use crate::split::Step;
 
 use crate::RULES;
 

@@ -30,6 +30,9 @@ mod products;
 mod program;
 mod redundant;
 mod report;
+#[allow(dead_code)]
+#[path = "../../include/split.rs"]
+mod split;
 mod subject;
 mod telling;
 mod tiny;

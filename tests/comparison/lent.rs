@@ -1,5 +1,5 @@
 //! Memory that is lent to the library: whatever is touched that should not be shows.
-use crate::library::{Answer, Step};
+use crate::split::{Answer, Step};
 use std::ops::Deref;
 use std::ptr;
 use std::sync::OnceLock;

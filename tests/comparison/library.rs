@@ -2,66 +2,10 @@
 use crate::answer::Told;
 use crate::call::{names, Call};
 use crate::lent::{lend, Among, Entry, UNSPOILT};
+use crate::split::{split_check, split_name, split_run, split_steps, split_thin, Answer, Name, Run, Set, Step};
 use reference::TEXT_BOUND;
 use std::fmt::Debug;
 use std::ptr;
-
-#[repr(C)]
-#[derive(Clone, Copy, Debug, PartialEq)]
-pub struct Step {
-    pub source: u8,
-    pub event: u8,
-    pub target: u8,
-}
-
-#[repr(C)]
-#[derive(Clone, Copy, Debug, Default, PartialEq)]
-pub struct Answer {
-    number: usize,
-    detail: usize,
-    second: usize,
-    size: usize,
-}
-
-#[repr(C)]
-#[derive(Debug, Default, PartialEq)]
-struct Name {
-    number: usize,
-    detail: usize,
-    second: usize,
-    from: usize,
-    size: usize,
-}
-
-#[repr(C)]
-#[derive(Debug, Default, PartialEq)]
-struct Run {
-    number: usize,
-    detail: usize,
-    second: usize,
-    blocked: usize,
-    ran: usize,
-    machine: usize,
-    places: [u8; 16],
-}
-
-#[repr(C)]
-#[derive(Debug, Default, PartialEq)]
-struct Set {
-    number: usize,
-    detail: usize,
-    second: usize,
-    machines: usize,
-    size: usize,
-}
-
-extern "C" {
-    fn split_check(text: *const u8, text_len: usize, out: *mut u8, out_len: usize) -> Answer;
-    fn split_steps(text: *const u8, text_len: usize, out: *mut Step, out_len: usize) -> Answer;
-    fn split_name(text: *const u8, text_len: usize, event: usize) -> Name;
-    fn split_run(text: *const u8, text_len: usize, events: *const u8, events_len: usize) -> Run;
-    fn split_thin(text: *const u8, text_len: usize) -> Set;
-}
 
 impl Step {
     pub fn new(figures: &[usize]) -> Step {
