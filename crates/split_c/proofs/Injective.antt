@@ -146,7 +146,7 @@ name-numbered s e r q = go (demand1 s .naming e .refuses r .0 q)
   where
     offends : Offends s r → 1 ≤ r .number
     offends (inl x) = text-number s r x .0
-    offends (inr w) = omega (arith, offence-number (w .0) r (w .2) .0)
+    offends (inr w) = omega (arith, offence-number (w .0) r (w .2))
 
     go : Refused 7 s r ⊎ ((v : Input) × Passes 7 s v × (length (v .names) ≤ e) × (r ≡ refuse 14 0 0)) → 1 ≤ r .number
     go (inl f) = offends (f .holds)
