@@ -13,7 +13,8 @@ use lib.Seq.{take-suc, take-length}
 use Rattle.model.specs.Lists.{At, exists, every, isSome, lowest}
 use Rattle.model.specs.Refusal.{Refusal, refuse}
 use Rattle.model.specs.TransitionSystem.{TransitionSystem}
-use Rattle.model.specs.Machine.{Machine, Decomposition, placeOf, inAlphabet, effective, inPre, ready, common, openEvent, ineffectiveEvent, closureRefusal, coverRefusal}
+use Rattle.model.specs.Product.{inAlphabet, effective}
+use Rattle.model.specs.Machine.{Machine, Decomposition, placeOf, inPre, ready, common, openEvent, ineffectiveEvent, closureRefusal, coverRefusal, move}
 use Rattle.model.proofs.Laws.{order}
 use Rattle.model.proofs.ListLaws.{every-append}
 use Rattle.model.proofs.Positions.{at-below, below-at, at-value}
@@ -38,21 +39,21 @@ isSome-cond false a = refl
 
 -- ---- 11 by the moves
 module _ {ts : TransitionSystem} {ms : Decomposition} {pre post : List ℕ} (moves : MovesTold ts ms pre post) where
-  pub on-machine : (e k : ℕ) (m : Machine) → e < ts .events → At ms k m → onMachine pre e k ≡ inAlphabet ts e m
+  pub on-machine : (e k : ℕ) (m : Machine) → e < ts .events → At ms k m → onMachine pre e k ≡ inAlphabet (move ts) e m
   unfolding onMachine inAlphabet moveAt
   on-machine e k m l a = sym (isSome-cond (ltb (entry pre (e * 16 + k)) 64) _) ∙ ap isSome (moves .move k e m a l)
 
-  pub on-first : (e n : ℕ) → e < ts .events → n ≤ length ms → onSome pre e n ≡ exists (inAlphabet ts e) (take n ms)
+  pub on-first : (e n : ℕ) → e < ts .events → n ≤ length ms → onSome pre e n ≡ exists (inAlphabet (move ts) e) (take n ms)
   unfolding onSome exists
   on-first e zero l b = refl
   on-first e (suc n) l b =
       let w = below-at ms n b in
       rw (on-first e n l (omega arith), on-machine e n (w .0) l (w .1), take-suc ms n (w .0), at-value ms n (w .0) (w .0) (w .1))
-      (sym (exists-snoc (inAlphabet ts e) (take n ms) (w .0)))
+      (sym (exists-snoc (inAlphabet (move ts) e) (take n ms) (w .0)))
 
-  on-all : (e : ℕ) → e < ts .events → onSome pre e (length ms) ≡ effective ts ms e
+  on-all : (e : ℕ) → e < ts .events → onSome pre e (length ms) ≡ effective (move ts) ms e
   unfolding effective
-  on-all e l = on-first e (length ms) l (omega arith) ∙ ap (exists (inAlphabet ts e)) (take-length ms)
+  on-all e l = on-first e (length ms) l (omega arith) ∙ ap (exists (inAlphabet (move ts) e)) (take-length ms)
 
   ineffective-same : lowest (λ (e : ℕ). not (onSome pre e (length ms))) (ts .events) ≡ ineffectiveEvent ts ms
   unfolding ineffectiveEvent
@@ -99,7 +100,7 @@ module _ {ts : TransitionSystem} {ms : Decomposition} {pre post sets excitations
           let w = below-at ms n c in
           rw (meets-past e n i (w .0) (w .1) b (sym (ap (λ (t : Bool). t || onMachine pre e n) q) ∙ o)) (and-false (commonTo sets pre e n i))
 
-  all-closed : ((e : ℕ) → e < ts .events → effective ts ms e ≡ true)
+  all-closed : ((e : ℕ) → e < ts .events → effective (move ts) ms e ≡ true)
       → openRefusal (openIn sets pre excitations (length ms)) (ts .events) ≡ closureRefusal ts ms (openEvent ts ms)
   unfolding openIn
   all-closed =

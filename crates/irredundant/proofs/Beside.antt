@@ -12,7 +12,8 @@ use lib.Seq.{length-take-le}
 use Rattle.model.specs.Lists.{At, exists, every, isSome, lowest}
 use Rattle.model.specs.Refusal.{Refusal}
 use Rattle.model.specs.TransitionSystem.{TransitionSystem}
-use Rattle.model.specs.Machine.{Machine, Decomposition, inAlphabet, effective, ready, common, coverRefusal, select, suffices}
+use Rattle.model.specs.Product.{inAlphabet, effective}
+use Rattle.model.specs.Machine.{Machine, Decomposition, ready, common, coverRefusal, select, suffices, move}
 use Rattle.model.proofs.Laws.{T-true, and-l, and-r, isSome-none}
 use Rattle.model.proofs.ListLaws.{exists-append, every-append, not-empty}
 use Rattle.state_set.specs.Rows.{memberAt}
@@ -34,7 +35,7 @@ select-without (suc k) marks (m ∷ ms) l = ap (λ (ds : Decomposition). m ∷ d
 -- ---- the rows of kept machines
 -- which events are on the machines, and which states are common to their pre-places there
 pub record Tells (ts : TransitionSystem) (ds : Decomposition) (above : List ℕ) (onAbove : List Bool) : Type 0 where
-  pub on : (e : ℕ) → e < ts .events → getD onAbove e false ≡ effective ts ds e
+  pub on : (e : ℕ) → e < ts .events → getD onAbove e false ≡ effective (move ts) ds e
   pub all : (e i : ℕ) → e < ts .events → i < ts .states → memberAt above e i ≡ common ts ds e i
   pub past : (e i : ℕ) → e < ts .events → ts .states ≤ i → getD onAbove e false ≡ true → memberAt above e i ≡ false
 
@@ -58,7 +59,7 @@ module _ {ts : TransitionSystem} {ms : Decomposition} {pre post sets excited : L
   unfolding effective common exists every
   tells-more {above2} {onAbove2} m a add =
       record {
-        on = λ e l. add .on e l ∙ rw (rows .on e l, on-machine (told .moves) e k m l a) (or-comm (effective ts ds e) (inAlphabet ts e m));
+        on = λ e l. add .on e l ∙ rw (rows .on e l, on-machine (told .moves) e k m l a) (or-comm (effective (move ts) ds e) (inAlphabet (move ts) e m));
         all = λ e i l b. add .common e i l ∙ rw (rows .all e i l b, machine-ready told e k i m l b a) (and-comm (common ts ds e i) (ready ts e i m));
         past = λ e i l b h. add .common e i l ∙ outside e i l b (getD onAbove e false) refl (sym (add .on e l) ∙ h);
       }
@@ -80,11 +81,11 @@ module _ {ts : TransitionSystem} {ms : Decomposition} {pre post sets excited : L
     abbrev inAll : ℕ → ℕ → Bool
     inAll e i = memberAt below (e * 16 + k) i && memberAt above e i
 
-    on-same : (e : ℕ) → e < ts .events → onBeside e ≡ effective ts beside e
+    on-same : (e : ℕ) → e < ts .events → onBeside e ≡ effective (move ts) beside e
     unfolding effective
     on-same e l =
-        rw (rows .on e l, on-first (told .moves) e k l (omega arith), exists-append (inAlphabet ts e) (take k ms) ds)
-        (or-comm (effective ts ds e) (exists (inAlphabet ts e) (take k ms)))
+        rw (rows .on e l, on-first (told .moves) e k l (omega arith), exists-append (inAlphabet (move ts) e) (take k ms) ds)
+        (or-comm (effective (move ts) ds e) (exists (inAlphabet (move ts) e) (take k ms)))
 
     inAll-same : (e i : ℕ) → e < ts .events → i < ts .states → inAll e i ≡ common ts beside e i
     unfolding common

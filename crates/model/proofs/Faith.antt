@@ -12,16 +12,18 @@ use lib.Seq.{take-at}
 use Rattle.model.specs.Lists.{At, isSome}
 use Rattle.model.specs.Refusal.{Refusal, passed}
 use Rattle.model.specs.TransitionSystem.{TransitionSystem, systemStep, runs, andThen, systemRuns, transitionsRefusal}
-use Rattle.model.specs.Machine.{Machine, Decomposition, Move, places, move, moveFrom, fire, fireAll, both, effective, productStep, productRuns}
+use Rattle.model.specs.Product.{Move, moveFrom, both, Ran, oneMore, effective, fire, fireAll, productStep, blocker, runFrom}
+use Rattle.model.specs.Machine.{Machine, Decomposition, places, move, productRuns}
 use Rattle.model.specs.Region.{Walk, Stands, MachinesRun}
-use Rattle.model.specs.Services.{Ran, blocker, oneMore, runFrom, whole, blocked, refusedBy, outcomeOf, padded, ranAnswer}
+use Rattle.model.specs.Services.{whole, blocked, refusedBy, outcomeOf, padded, ranAnswer}
 use Rattle.model.specs.Demands.{OfSystem, SystemRuns, ProductRuns, Faithful, Blocks, Tells, Answers}
 use Rattle.model.proofs.Laws.{dec, eqb-of, cond-true, cond-false}
-use Rattle.model.proofs.Positions.{at-below, at-mem, getD-mem}
+use Rattle.model.proofs.Positions.{at-below, at-mem, at-value}
 use Rattle.model.proofs.Bounds.{Within, Listed}
 use Rattle.model.proofs.Places.{Good}
+use Rattle.model.proofs.Together.{step-effective, Halts, blocker-halts, RunEnd, ended, halted, run-end}
 use Rattle.model.proofs.Simulate.{Covers, runs-same, step-low}
-use Rattle.model.proofs.Running.{RunTells, tells, run-stops, run-goes}
+use Rattle.model.proofs.Running.{RunTells, tells}
 use Rattle.model.proofs.Arcs.{arc-iff}
 use Rattle.model.proofs.Standing.{length-places, stands-at}
 use Rattle.model.proofs.Product.{some-of, system-walk, machines-run}
@@ -92,54 +94,6 @@ take-runs p (e ∷ es) (suc j) (suc k) s l t = go (systemStep p s e) (λ u x. ta
     go none ih x = x
     go (some u) ih x = ih u x
 
--- what a run of the machines answers: it ran to its end, or the machines do not take the next event
-pub data RunEnd (p : TransitionSystem) (ms : Decomposition) (es : List ℕ) (r : Ran) : Type 0 where
-  ended : r .blocked ≡ none → r .ran ≡ length es → RunEnd p ms es r
-  halted : r .blocked ≡ some (blocker p ms (r .places) (getD es (r .ran) 0)) → r .ran < length es → productStep p ms (r .places) (getD es (r .ran) 0) ≡ none → RunEnd p ms es r
-
-pub run-end : (p : TransitionSystem) (ms : Decomposition) (es qs : List ℕ) → RunEnd p ms es (runFrom p ms qs es)
-unfolding runFrom oneMore
-run-end p ms [] qs = ended refl refl
-run-end p ms (e ∷ es) qs = go (productStep p ms qs e) refl (run-end p ms es)
-  where
-    go : (o : Option (List ℕ)) → productStep p ms qs e ≡ o → ((rs : List ℕ) → RunEnd p ms es (runFrom p ms rs es)) → RunEnd p ms (e ∷ es) (runFrom p ms qs (e ∷ es))
-    go none h ih = subst (RunEnd p ms (e ∷ es)) (sym (run-stops p ms qs e es h)) (halted refl (omega arith) h)
-    go (some rs) h ih = subst (RunEnd p ms (e ∷ es)) (sym (run-goes p ms qs rs e es h)) (one-more (ih rs))
-      where
-        one-more : RunEnd p ms es (runFrom p ms rs es) → RunEnd p ms (e ∷ es) (oneMore (runFrom p ms rs es))
-        one-more (ended x y) = ended x (ap suc y)
-        one-more (halted x y z) = halted x (omega arith) z
-
--- the lowest machine that blocks
-pub record Halts (p : TransitionSystem) (e : ℕ) (ms : Decomposition) (qs : List ℕ) (k : ℕ) : Type 0 where
-  pub machine : Machine
-  pub numbered : At ms k machine
-  pub stops : fire p machine e (getD qs k 0) ≡ none
-  pub lower : (j : ℕ) (m : Machine) → j < k → At ms j m → T (isSome (fire p m e (getD qs j 0)))
-
-pub blocker-halts : (p : TransitionSystem) (e : ℕ) (ms : Decomposition) (qs : List ℕ) → length qs ≡ length ms → fireAll p e ms qs ≡ none → Halts p e ms qs (blocker p ms qs e)
-unfolding fireAll both blocker isSome
-blocker-halts p e [] [] n h = absurd (Option·some-ne-none [] h)
-blocker-halts p e [] (q ∷ qs) n h = absurd (omega arith)
-blocker-halts p e (m ∷ ms) [] n h = absurd (omega arith)
-blocker-halts p e (m ∷ ms) (q ∷ qs) n h = go (fire p m e q) refl h (blocker-halts p e ms qs (omega arith))
-  where
-    go : (o : Option ℕ) → fire p m e q ≡ o → both o (fireAll p e ms qs) ≡ none → (fireAll p e ms qs ≡ none → Halts p e ms qs (blocker p ms qs e))
-        → Halts p e (m ∷ ms) (q ∷ qs) (cond (isSome o) (suc (blocker p ms qs e)) 0)
-    go none f x ih = record { machine = m; numbered = refl; stops = f; lower = λ j v l a. absurd (omega arith) }
-    go (some r) f x ih = next (ih (rest (fireAll p e ms qs) x))
-      where
-        rest : (o : Option (List ℕ)) → both (some r) o ≡ none → o ≡ none
-        rest none y = refl
-        rest (some rs) y = absurd (Option·some-ne-none (r ∷ rs) y)
-
-        next : Halts p e ms qs (blocker p ms qs e) → Halts p e (m ∷ ms) (q ∷ qs) (suc (blocker p ms qs e))
-        next i = record { machine = i .machine; numbered = i .numbered; stops = i .stops; lower = low }
-          where
-            low : (j : ℕ) (v : Machine) → j < suc (blocker p ms qs e) → At (m ∷ ms) j v → T (isSome (fire p v e (getD (q ∷ qs) j 0)))
-            low zero v l a = subst (λ (z : Machine). T (isSome (fire p z e q))) (Option·some-injective m v a) (rw f tt)
-            low (suc j) v l a = i .lower j v (omega arith) a
-
 -- a machine that blocks has the event and stands outside its pre-place
 blocks-outside : (q : ℕ) (o : Option Move) → moveFrom q o ≡ none → (v : Move) × (o ≡ some v) × (¬ (q ≡ v .pre))
 unfolding moveFrom
@@ -155,7 +109,7 @@ moves-inside q v t = go (dec (eqb q (v .pre)))
     go (inl x) = eqb→eq q (v .pre) x
     go (inr x) = absurd (rw (cond-false (eqb q (v .pre)) (some (v .post)) none x) at t)
 
-module _ (p : TransitionSystem) (ms : Decomposition) (b : Within p) (g : (m : Machine) → List·Memᴰ m ms → Good p m) (w : (m : Machine) → List·Memᴰ m ms → Listed p m) (qs ps : List ℕ) (told : (j : ℕ) → j < length ms → getD ps j 0 ≡ getD qs j 0) (e k : ℕ) (h : Halts p e ms qs k) where
+module _ (p : TransitionSystem) (ms : Decomposition) (b : Within p) (g : (m : Machine) → List·Memᴰ m ms → Good p m) (w : (m : Machine) → List·Memᴰ m ms → Listed p m) (qs ps : List ℕ) (told : (j : ℕ) → j < length ms → getD ps j 0 ≡ getD qs j 0) (e k : ℕ) (h : Halts (move p) e ms qs k) where
   halts-blocks : Blocks p ms ps e k
   unfolding fire
   halts-blocks =
@@ -180,10 +134,6 @@ module _ (p : TransitionSystem) (ms : Decomposition) (b : Within p) (g : (m : Ma
       x .elsewhere
       (told j (at-below ms j m (x .numbered))
       ∙ moves-inside (getD qs j 0) v (rw (arc-iff p m (g m i) b (w m i) e v .1 (x .has)) at (h .lower j m l (x .numbered))))
-
-pub step-effective : (p : TransitionSystem) (ms : Decomposition) (qs : List ℕ) (e : ℕ) → T (effective p ms e) → productStep p ms qs e ≡ fireAll p e ms qs
-unfolding productStep
-step-effective p ms qs e t = cond-true (effective p ms e) (fireAll p e ms qs) none t
 
 -- zeros after the places
 getD-zeros : (n k : ℕ) → _≡_ {A = ℕ} (getD (replicate n 0) k 0) 0
@@ -240,7 +190,7 @@ run-tells p ms b f g few es r i n q =
 
 pub answered : (p : TransitionSystem) (ms : Decomposition) → Within p → transitionsRefusal [] (p .transitions) ≡ none
     → ((m : Machine) → List·Memᴰ m ms → Good p m) → ((m : Machine) → List·Memᴰ m ms → Listed p m) → Covers p ms → length ms ≤ 16
-    → (es : List ℕ) → OfSystem p es → Answers p ms es (ranAnswer (passed (runFrom p ms (places ms (p .initial)) es)))
+    → (es : List ℕ) → OfSystem p es → Answers p ms es (ranAnswer (passed (runFrom (move p) ms (places ms (p .initial)) es)))
 unfolding ranAnswer systemRuns outcomeOf padded
 answered p ms b f g w c few es d =
     record {
@@ -249,12 +199,12 @@ answered p ms b f g w c few es d =
         λ x. ap (outcomeOf (r .ran)) (i .whole .1 (runs-some p f es .1 x)),
       );
       not-refused = outcome-passed (r .ran) (r .blocked);
-      if-whole = λ h. run-tells p ms b f g few es r i (length es) (at-end (outcome-whole (r .ran) (r .blocked) h) (run-end p ms es (places ms (p .initial))));
-      if-blocked = λ n k h. let o = outcome-blocked (r .ran) (r .blocked) n k h in at-stop n k (o .0) (o .1) (run-end p ms es (places ms (p .initial)));
+      if-whole = λ h. run-tells p ms b f g few es r i (length es) (at-end (outcome-whole (r .ran) (r .blocked) h) (run-end (move p) ms es (places ms (p .initial))));
+      if-blocked = λ n k h. let o = outcome-blocked (r .ran) (r .blocked) n k h in at-stop n k (o .0) (o .1) (run-end (move p) ms es (places ms (p .initial)));
     }
   where
     r : Ran
-    r = runFrom p ms (places ms (p .initial)) es
+    r = runFrom (move p) ms (places ms (p .initial)) es
 
     ps : List ℕ
     ps = padded (r .places)
@@ -268,30 +218,27 @@ answered p ms b f g w c few es d =
     told : (j : ℕ) → j < length ms → getD ps j 0 ≡ getD (r .places) j 0
     told j l = List·getD-append (r .places) (replicate (16 - length (r .places)) 0) 0 j (omega (arith, size))
 
-    at-end : r .blocked ≡ none → RunEnd p ms es r → r .ran ≡ length es
+    at-end : r .blocked ≡ none → RunEnd (move p) ms es r → r .ran ≡ length es
     at-end q (ended x y) = y
-    at-end q (halted x y z) = absurd (Option·some-ne-none (blocker p ms (r .places) (getD es (r .ran) 0)) (sym x ∙ q))
+    at-end q (halted e a x z) = absurd (Option·some-ne-none (blocker (move p) ms (r .places) e) (sym x ∙ q))
 
-    at-stop : (n k : ℕ) → r .ran ≡ n → r .blocked ≡ some k → RunEnd p ms es r
+    at-stop : (n k : ℕ) → r .ran ≡ n → r .blocked ≡ some k → RunEnd (move p) ms es r
         → (n < length es) × Tells p ms es n ps × Blocks p ms ps (getD es n 0) k × ((j : ℕ) → j < k → ¬ Blocks p ms ps (getD es n 0) j)
     at-stop n k q o (ended x y) = absurd (Option·none-ne-some k (sym x ∙ o))
-    at-stop n k q o (halted x y z) = (
-      subst (λ (j : ℕ). j < length es) q y,
+    at-stop n k q o (halted e a x z) = (
+      subst (λ (j : ℕ). j < length es) q (at-below es (r .ran) e a),
       run-tells p ms b f g few es r i n q,
       halts-blocks p ms b g w (r .places) ps told (getD es n 0) k halts,
       lower-passes p ms b g w (r .places) ps told (getD es n 0) k halts,
     )
       where
-        e : ℕ
-        e = getD es (r .ran) 0
+        all-stop : fireAll (move p) e ms (r .places) ≡ none
+        all-stop = sym (step-effective (move p) ms (r .places) e (c .effective e (d e (at-mem es (r .ran) e a)))) ∙ z
 
-        low : e < p .events
-        low = d e (getD-mem es (r .ran) 0 y)
+        next : e ≡ getD es n 0
+        next = sym (at-value es (r .ran) e 0 a) ∙ ap (λ (j : ℕ). getD es j 0) q
 
-        all-stop : fireAll p e ms (r .places) ≡ none
-        all-stop = sym (step-effective p ms (r .places) e (c .effective e low)) ∙ z
-
-        halts : Halts p (getD es n 0) ms (r .places) k
+        halts : Halts (move p) (getD es n 0) ms (r .places) k
         halts =
-            subst (λ (j : ℕ). Halts p (getD es j 0) ms (r .places) k) q
-            (subst (Halts p e ms (r .places)) (Option·some-injective (blocker p ms (r .places) e) k (sym x ∙ o)) (blocker-halts p e ms (r .places) size all-stop))
+            subst (λ (d : ℕ). Halts (move p) d ms (r .places) k) next
+            (subst (Halts (move p) e ms (r .places)) (Option·some-injective (blocker (move p) ms (r .places) e) k (sym x ∙ o)) (blocker-halts (move p) e ms (r .places) size all-stop))

@@ -6,6 +6,7 @@ pub mod ListLaws
 pub mod Positions
 pub mod Counting
 -- the theory: one machine (Bounds to Moves), machines together (Simulate), reaching, what passing leaves, thinning, running
+pub mod Together
 pub mod Bounds
 pub mod Places
 pub mod Moves
@@ -19,12 +20,11 @@ pub mod Regions
 pub mod Arcs
 pub mod Standing
 pub mod Product
--- the table: its order, rows 11 and 12, rows 4 to 12, where two rows hold at once
+-- the table: its order, rows 11 and 12, rows 4 to 12
 pub mod Order
 pub mod Covering
 pub mod Limits
 pub mod Rows
-pub mod Precedence
 -- the text: words, lines, the sheet's lines, chains of lines, values, rows 1 to 3
 pub mod Words
 pub mod Numerals

@@ -8,7 +8,8 @@ use mathlib.Core.Option.{Option, none, some, Option·some-injective, Option·non
 use lib.Dec.{T, eqb, ltb, ltb→lt, lt→ltb, eqb→eq, eqb-refl}
 use Rattle.model.specs.Lists.{isSome, elem}
 use Rattle.model.specs.TransitionSystem.{Transition, TransitionSystem, systemStep, runs, andThen, systemRuns, declared, transitionRefusal, transitionsRefusal, systemRefusal}
-use Rattle.model.specs.Machine.{Machine, Decomposition, Move, placeOf, places, move, inAlphabet, effective, moveFrom, fire, both, fireAll, productStep, productRuns, unplacedState, nonuniformEvent}
+use Rattle.model.specs.Product.{Move, moveFrom, both, inAlphabet, effective, fire, fireAll, productStep}
+use Rattle.model.specs.Machine.{Machine, Decomposition, placeOf, places, move, productRuns, unplacedState, nonuniformEvent}
 use Rattle.model.specs.Region.{Walk, stay, goes, IsTransitionSystem, IsRegion, InPlace, IsMachine, Arc, HasEvent, Joint, done, joins, waits, Product, ProductWalk, MachinesRun}
 use Rattle.model.specs.Demands.{Derived, OfSystem}
 use Rattle.model.proofs.Laws.{not-T, contra, eqb-of, cond-true, exists-intro, exists-elim, every-elim, every-intro, orElse-none, none-lowest}
@@ -33,7 +34,7 @@ cond-some true x r h = (tt, Option·some-injective x r h)
 cond-some false x r h = absurd (Option·none-ne-some r h)
 
 module _ (p : TransitionSystem) (m : Machine) (b : Within p) (g : Good p m) (w : Listed p m) where
-  alphabet-iff : (e : ℕ) → T (inAlphabet p e m) ↔ HasEvent p m e
+  alphabet-iff : (e : ℕ) → T (inAlphabet (move p) e m) ↔ HasEvent p m e
   unfolding inAlphabet isSome
   alphabet-iff e = (λ x. to (move p m e) refl x, λ h. rw (arc-iff p m g b w e (record { pre = h .0; post = h .1 }) .1 (h .2)) tt)
     where
@@ -41,7 +42,7 @@ module _ (p : TransitionSystem) (m : Machine) (b : Within p) (g : Good p m) (w :
       to none q x = absurd x
       to (some v) q x = (v .pre, v .post, arc-iff p m g b w e v .0 q)
 
-  one-moved : (q e r : ℕ) → fire p m e q ≡ some r → Moved p m q e r
+  one-moved : (q e r : ℕ) → fire (move p) m e q ≡ some r → Moved p m q e r
   unfolding fire moveFrom
   one-moved q e r h = go (move p m e) refl h
     where
@@ -52,7 +53,7 @@ module _ (p : TransitionSystem) (m : Machine) (b : Within p) (g : Good p m) (w :
           inl (subst (λ (k : ℕ). Arc p m k e r) (sym (eqb→eq q (v .pre) (z .0)))
           (subst (λ (k : ℕ). Arc p m (v .pre) e k) (z .1) (arc-iff p m g b w e v .0 x)))
 
-  moved-one : (q e r : ℕ) → Moved p m q e r → fire p m e q ≡ some r
+  moved-one : (q e r : ℕ) → Moved p m q e r → fire (move p) m e q ≡ some r
   unfolding fire moveFrom
   moved-one q e r (inl a) = rw (arc-iff p m g b w e (record { pre = q; post = r }) .1 a) (cond-true (eqb q q) (some r) none (eqb-refl q))
   moved-one q e r (inr n) = go (move p m e) refl
@@ -68,13 +69,13 @@ both-some (some q) none rs h = absurd (Option·none-ne-some rs h)
 both-some (some q) (some qs) rs h = (q, qs, refl, refl, Option·some-injective (q ∷ qs) rs h)
 
 all-joint : (p : TransitionSystem) → Within p → (e : ℕ) (ms : Decomposition) → ((m : Machine) → List·Memᴰ m ms → Good p m) → ((m : Machine) → List·Memᴰ m ms → Listed p m)
-    → (qs rs : List ℕ) → fireAll p e ms qs ≡ some rs → Joint p e ms qs rs
+    → (qs rs : List ℕ) → fireAll (move p) e ms qs ≡ some rs → Joint p e ms qs rs
 unfolding fireAll
 all-joint p b e [] g w [] rs h = subst (Joint p e [] []) (Option·some-injective [] rs h) done
 all-joint p b e [] g w (q ∷ qs) rs h = absurd (Option·none-ne-some rs h)
 all-joint p b e (m ∷ ms) g w [] rs h = absurd (Option·none-ne-some rs h)
 all-joint p b e (m ∷ ms) g w (q ∷ qs) rs h =
-    let v = both-some (fire p m e q) (fireAll p e ms qs) rs h in
+    let v = both-some (fire (move p) m e q) (fireAll (move p) e ms qs) rs h in
     subst (Joint p e (m ∷ ms) (q ∷ qs)) (v .4)
     (go (v .0) (v .1) (one-moved p m b (g m (List·Memᴰ·head refl)) (w m (List·Memᴰ·head refl)) q e (v .0) (v .2))
     (all-joint p b e ms (λ n k. g n (List·Memᴰ·tail k)) (λ n k. w n (List·Memᴰ·tail k)) qs (v .1) (v .3)))
@@ -84,7 +85,7 @@ all-joint p b e (m ∷ ms) g w (q ∷ qs) rs h =
     go r us (inr n) j = subst (λ (z : ℕ). Joint p e (m ∷ ms) (q ∷ qs) (z ∷ us)) (n .1) (waits (n .0) j)
 
 joint-all : (p : TransitionSystem) → Within p → (e : ℕ) (ms : Decomposition) → ((m : Machine) → List·Memᴰ m ms → Good p m) → ((m : Machine) → List·Memᴰ m ms → Listed p m)
-    → (qs rs : List ℕ) → Joint p e ms qs rs → fireAll p e ms qs ≡ some rs
+    → (qs rs : List ℕ) → Joint p e ms qs rs → fireAll (move p) e ms qs ≡ some rs
 unfolding fireAll both
 joint-all p b e ms g w qs rs done = refl
 joint-all p b e ms g w qs rs (joins {m} {q} {r} {ms = ns} {qs = vs} {rs = us} t j) =
@@ -104,20 +105,20 @@ effective-some false o rs h = absurd (Option·none-ne-some rs h)
 
 -- 000, Definition 4
 pub product-iff : (p : TransitionSystem) (ms : Decomposition) → Within p → ((m : Machine) → List·Memᴰ m ms → Good p m) → ((m : Machine) → List·Memᴰ m ms → Listed p m)
-    → (qs : List ℕ) (e : ℕ) (rs : List ℕ) → (productStep p ms qs e ≡ some rs) ↔ Product p ms qs e rs
+    → (qs : List ℕ) (e : ℕ) (rs : List ℕ) → (productStep (move p) ms qs e ≡ some rs) ↔ Product p ms qs e rs
 unfolding productStep effective
 product-iff p ms b g w qs e rs = (to, from)
   where
-    to : productStep p ms qs e ≡ some rs → Product p ms qs e rs
+    to : productStep (move p) ms qs e ≡ some rs → Product p ms qs e rs
     to h =
-        let y = effective-some (effective p ms e) (fireAll p e ms qs) rs h in
-        let v = exists-elim (inAlphabet p e) ms (y .0) in
+        let y = effective-some (effective (move p) ms e) (fireAll (move p) e ms qs) rs h in
+        let v = exists-elim (inAlphabet (move p) e) ms (y .0) in
         record { machine = v .0; listed = v .1; shared = alphabet-iff p (v .0) b (g (v .0) (v .1)) (w (v .0) (v .1)) e .0 (v .2); joint = all-joint p b e ms g w qs rs (y .1) }
 
-    from : Product p ms qs e rs → productStep p ms qs e ≡ some rs
+    from : Product p ms qs e rs → productStep (move p) ms qs e ≡ some rs
     from x =
-        cond-true (effective p ms e) (fireAll p e ms qs) none
-        (exists-intro (inAlphabet p e) ms (x .machine) (x .listed) (alphabet-iff p (x .machine) b (g (x .machine) (x .listed)) (w (x .machine) (x .listed)) e .1 (x .shared)))
+        cond-true (effective (move p) ms e) (fireAll (move p) e ms qs) none
+        (exists-intro (inAlphabet (move p) e) ms (x .machine) (x .listed) (alphabet-iff p (x .machine) b (g (x .machine) (x .listed)) (w (x .machine) (x .listed)) e .1 (x .shared)))
         ∙ joint-all p b e ms g w qs rs (x .joint)
 
 -- ---- lists of events
@@ -133,17 +134,17 @@ some-of none t = absurd t
 some-of (some a) t = (a, refl)
 
 pub walks-iff : (p : TransitionSystem) (ms : Decomposition) → Within p → ((m : Machine) → List·Memᴰ m ms → Good p m) → ((m : Machine) → List·Memᴰ m ms → Listed p m)
-    → (es qs rs : List ℕ) → (runs (productStep p ms) qs es ≡ some rs) ↔ ProductWalk p ms qs es rs
+    → (es qs rs : List ℕ) → (runs (productStep (move p) ms) qs es ≡ some rs) ↔ ProductWalk p ms qs es rs
 unfolding runs andThen
 walks-iff p ms b g w es qs rs = (to es qs rs, from es qs rs)
   where
-    to : (es qs rs : List ℕ) → runs (productStep p ms) qs es ≡ some rs → ProductWalk p ms qs es rs
+    to : (es qs rs : List ℕ) → runs (productStep (move p) ms) qs es ≡ some rs → ProductWalk p ms qs es rs
     to [] qs rs h = subst (ProductWalk p ms qs []) (Option·some-injective qs rs h) stay
     to (e ∷ es) qs rs h =
-        let v = then-some (productStep p ms qs e) (λ us. runs (productStep p ms) us es) rs h in
+        let v = then-some (productStep (move p) ms qs e) (λ us. runs (productStep (move p) ms) us es) rs h in
         goes (product-iff p ms b g w qs e (v .0) .0 (v .1)) (to es (v .0) rs (v .2))
 
-    from : (es qs rs : List ℕ) → ProductWalk p ms qs es rs → runs (productStep p ms) qs es ≡ some rs
+    from : (es qs rs : List ℕ) → ProductWalk p ms qs es rs → runs (productStep (move p) ms) qs es ≡ some rs
     from es qs rs stay = refl
     from es qs rs (goes {e} {es = ds} {rs = us} x y) = rw (product-iff p ms b g w qs e us .1 x) (from ds us rs y)
 
@@ -177,7 +178,7 @@ machines-run p ms b g w es qs = (
 )
 
 -- the declared lists are those of the system's events
-pub of-system : (p : TransitionSystem) (es : List ℕ) → T (declared p es) ↔ OfSystem p es
+pub of-system : (p : TransitionSystem) (es : List ℕ) → T (declared (p .events) es) ↔ OfSystem p es
 unfolding declared
 of-system p es = (
   λ t e k. ltb→lt e (p .events) (every-elim (λ d. ltb d (p .events)) es t e k),

@@ -1,4 +1,5 @@
 -- The types of the code in the model's words; each is told whole (proofs/Cases).
+-- Believed: all of it.
 use Rattle.model.specs.declared.Refusal.the-variants as C
 use Rattle.model.specs.declared.Refusal as D
 use Rattle.model.specs.declared.Transition as T

@@ -1,6 +1,7 @@
 pub mod Lists
 pub mod Refusal
 pub mod TransitionSystem
+pub mod Product
 pub mod Machine
 pub mod Region
 pub mod Bytes

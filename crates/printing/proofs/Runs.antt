@@ -1,29 +1,30 @@
 -- The line of a run, by what Run answers: a refusal, that all events ran, or where a machine blocked.
-use Prim.Native.Nat.{ℕ, suc, _-_, _≤_}
+use Prim.Native.Nat.{ℕ, _-_, _≤_}
 use native.Mathlib.Omega.{arith}
 use mathlib.Core.Path.{_≡_, refl, ap, ap₂, sym, _∙_}
 use mathlib.Core.Logic.{_⊎_, inl, inr}
-use mathlib.Core.Bool.{Bool, true, false, not, cond}
-use mathlib.Core.List.{List, [], _∷_, _++_}
-use mathlib.Core.Option.{Option, none, some, Option·none-ne-some, Option·some-injective}
+use mathlib.Core.Bool.{not}
+use mathlib.Core.List.{List, _++_}
+use mathlib.Core.Option.{Option, none, some}
 use lib.Dec.{T}
 use lib.ListN.{length, take, replicate, length-append}
 use lib.Seq.{take-at}
 use Rattle.model.specs.declared.Refusal as D
 use Rattle.model.specs.Cases.{tabled}
 use Rattle.model.specs.Refusal.{Refusal, Checked, refused, passed, _>>=_}
-use Rattle.model.specs.TransitionSystem.{TransitionSystem, declared}
-use Rattle.model.specs.Machine.{Decomposition, places, effective, fire, both, fireAll, productStep}
+use Rattle.model.specs.TransitionSystem.{declared}
+use Rattle.model.specs.Product.{Ran, runFrom}
+use Rattle.model.specs.Machine.{places, move}
 use Rattle.model.specs.Bytes.{bytes, numeral}
 use Rattle.model.specs.Text.{Input, system}
 use Rattle.model.specs.Services as Services
-use Rattle.model.specs.Services.{asFarAs12, writtenRefusal, Ran, oneMore, runFrom, runEvents, padded, outcomeOf, ranAnswer}
+use Rattle.model.specs.Services.{asFarAs12, writtenRefusal, runInput, padded, outcomeOf, ranAnswer}
 use Rattle.model.specs.Printed.{printedBy, ranWord, placesWord, ranLine, printedRun}
 use Rattle.model.proofs.Laws.{dec}
 use Rattle.model.proofs.Order.{Verdict, turned-down, let-through}
 use Rattle.model.proofs.Verdicts.{verdict12}
 use Rattle.model.proofs.Refusing.{events-declared, events-unknown}
-use Rattle.model.proofs.Running.{run-stops, run-goes}
+use Rattle.model.proofs.Together.{run-length}
 use Rattle.model.proofs.Standing.{length-places}
 use Rattle.writers.proofs.Refusals.{numeral-most}
 use Rattle.product.specs.declared.Outcome.the-variants.{Whole, Blocked, Refused}
@@ -31,45 +32,9 @@ use Rattle.product.specs.declared.RunAnswer.{RunAnswer}
 use Rattle.product.specs.Answers.{outcomeIs, runAnswer}
 use Rattle.printing.specs.Shown.{MachinesOf}
 
--- ---- one place for each machine, however far the run goes
-module _ (ts : TransitionSystem) where
-  fired : (e : ℕ) (ms : Decomposition) (qs rs : List ℕ) → fireAll ts e ms qs ≡ some rs → length rs ≡ length ms
-  unfolding fireAll both
-  fired e [] [] rs h = ap length (sym (Option·some-injective [] rs h))
-  fired e [] (q ∷ qs) rs h = absurd (Option·none-ne-some rs h)
-  fired e (m ∷ ms) [] rs h = absurd (Option·none-ne-some rs h)
-  fired e (m ∷ ms) (q ∷ qs) rs h = go (fire ts m e q) (fireAll ts e ms qs) (fired e ms qs) h
-    where
-      go : (o : Option ℕ) (os : Option (List ℕ)) → ((ps : List ℕ) → os ≡ some ps → length ps ≡ length ms) → both o os ≡ some rs
-          → length rs ≡ length (m ∷ ms)
-      go none os ih x = absurd (Option·none-ne-some rs x)
-      go (some p) none ih x = absurd (Option·none-ne-some rs x)
-      go (some p) (some ps) ih x = ap length (sym (Option·some-injective (p ∷ ps) rs x)) ∙ ap suc (ih ps refl)
-
-  stepped : (e : ℕ) (ms : Decomposition) (qs rs : List ℕ) → productStep ts ms qs e ≡ some rs → length rs ≡ length ms
-  unfolding productStep
-  stepped e ms qs rs h = go (effective ts ms e) h
-    where
-      go : (b : Bool) → cond b (fireAll ts e ms qs) none ≡ some rs → length rs ≡ length ms
-      go true x = fired e ms qs rs x
-      go false x = absurd (Option·none-ne-some rs x)
-
-  one-each : (ms : Decomposition) (es qs : List ℕ) → length qs ≡ length ms → length (runFrom ts ms qs es .places) ≡ length ms
-  unfolding runFrom oneMore
-  one-each ms [] qs h = h
-  one-each ms (e ∷ es) qs h = go (productStep ts ms qs e) refl (one-each ms es)
-    where
-      go : (o : Option (List ℕ)) → productStep ts ms qs e ≡ o → ((rs : List ℕ) → length rs ≡ length ms → length (runFrom ts ms rs es .places) ≡ length ms)
-          → length (runFrom ts ms qs (e ∷ es) .places) ≡ length ms
-      go none x ih = ap (λ (r : Ran). length (r .places)) (run-stops ts ms qs e es x) ∙ h
-      go (some rs) x ih = ap (λ (r : Ran). length (r .places)) (run-goes ts ms qs rs e es x) ∙ ih rs (stepped e ms qs rs x)
-
 -- ---- what is run, and what it comes to
-abbrev running-on : List ℕ → Input → Checked Ran
-running-on es v = runEvents (system v) (v .machines) (places (v .machines) (v .initial)) es
-
 abbrev running : List ℕ → List ℕ → Checked Ran
-running s es = asFarAs12 s >>= running-on es
+running s es = asFarAs12 s >>= λ v. runInput v es
 
 data Comes (s es : List ℕ) : Type 0 where
   stopped : (r : Refusal) → running s es ≡ refused r → Comes s es
@@ -80,20 +45,20 @@ comes : (s es : List ℕ) → Comes s es
 comes s es = go (verdict12 s)
   where
     go : Verdict 12 s (asFarAs12 s) → Comes s es
-    go (turned-down r e f) = stopped r (ap (λ (c : Checked Input). c >>= running-on es) e)
-    go (let-through v e p) = on (dec (declared (system v) es))
+    go (turned-down r e f) = stopped r (ap (λ (c : Checked Input). c >>= λ w. runInput w es) e)
+    go (let-through v e p) = on (dec (declared (length (v .names)) es))
       where
         start : List ℕ
         start = places (v .machines) (v .initial)
 
-        here : running s es ≡ running-on es v
-        here = ap (λ (c : Checked Input). c >>= running-on es) e
+        here : running s es ≡ runInput v es
+        here = ap (λ (c : Checked Input). c >>= λ w. runInput w es) e
 
-        on : T (declared (system v) es) ⊎ T (not (declared (system v) es)) → Comes s es
+        on : T (declared (length (v .names)) es) ⊎ T (not (declared (length (v .names)) es)) → Comes s es
         on (inl t) =
-            ran v (runFrom (system v) (v .machines) start es) (here ∙ events-declared (system v) (v .machines) start es t) e (p .reads .1 .machines-most)
-            (one-each (system v) (v .machines) es start (length-places (v .machines) (v .initial)))
-        on (inr t) = stopped _ (here ∙ events-unknown (system v) (v .machines) start es t)
+            ran v (runFrom (move (system v)) (v .machines) start es) (here ∙ events-declared (move (system v)) (length (v .names)) (v .machines) start es t) e (p .reads .1 .machines-most)
+            (run-length (move (system v)) (v .machines) es start (length-places (v .machines) (v .initial)))
+        on (inr t) = stopped _ (here ∙ events-unknown (move (system v)) (length (v .names)) (v .machines) start es t)
 
 run-is : (s es : List ℕ) → Services.run s es ≡ ranAnswer (running s es)
 unfolding Services.run

@@ -8,11 +8,11 @@ use Rattle.model.specs.Cases.{tabled}
 use Rattle.model.specs.Refusal.{Refusal, Checked, refused, passed, _>>=_}
 use Rattle.model.specs.Bytes.{bytes, numeral}
 use Rattle.model.specs.Text.{Input, system}
-use Rattle.model.specs.Services.{asFarAs12, writtenRefusal, Kept, thin}
+use Rattle.model.specs.Services.{asFarAs12, writtenRefusal, Kept, keptOf, thin}
 use Rattle.model.specs.Printed.{printedBy, joined, keptLine, printedThin}
 use Rattle.model.proofs.Order.{Verdict, turned-down, let-through}
 use Rattle.model.proofs.Verdicts.{verdict12, refused-passed, same-refused, same-passed}
-use Rattle.model.proofs.Refusing.{kept-of, thin-is}
+use Rattle.model.proofs.Refusing.{thin-is}
 use Rattle.model.proofs.Kept.{kept-length}
 use Rattle.irredundant.specs.Kept.{setNumber}
 use Rattle.thin_service.specs.declared.Thinned.the-variants as T
@@ -30,13 +30,13 @@ data Comes (s : List ℕ) : Type 0 where
   kept : (k : Kept) → thin s ≡ passed k → length (k .marks) ≤ 16 → Comes s
 
 comes : (s : List ℕ) → Comes s
-unfolding thin kept-of
+unfolding thin keptOf
 comes s = go (verdict12 s)
   where
     go : Verdict 12 s (asFarAs12 s) → Comes s
-    go (turned-down r e f) = stopped r (ap (λ (c : Checked Input). c >>= λ v. passed (kept-of v)) e)
+    go (turned-down r e f) = stopped r (ap (λ (c : Checked Input). c >>= λ v. passed (keptOf v)) e)
     go (let-through v e p) =
-        kept (kept-of v) (thin-is s v e) (subst (λ (n : ℕ). n ≤ 16) (sym (kept-length (system v) (v .machines))) (p .reads .1 .machines-most))
+        kept (keptOf v) (thin-is s v e) (subst (λ (n : ℕ). n ≤ 16) (sym (kept-length (system v) (v .machines))) (p .reads .1 .machines-most))
 
 print-as : (s : List ℕ) {c : Checked Kept} → thin s ≡ c → printedThin s ≡ printedBy keptLine c
 unfolding printedThin

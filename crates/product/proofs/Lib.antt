@@ -5,6 +5,8 @@ pub mod Places
 -- an event on the machines together: by the rows of their moves, and in the model's words
 pub mod Moving
 pub mod Firing
+-- the machines of a text
+pub mod Told
 -- events that are not declared
 pub mod Unknown
 -- the events one after another

@@ -12,12 +12,12 @@ use lib.Dec.{T, eqb, ltb}
 use lib.ListN.{length, set, length-set}
 use lib.Seq.{getD-set-same, getD-set-other}
 use Rattle.model.specs.Lists.{isSome, lowest}
-use Rattle.model.specs.Machine.{moveFrom}
+use Rattle.model.specs.Product.{moveFrom, fire}
 use Rattle.model.proofs.Laws.{T-true, and-l, and-r, and-not, contra, order, lowest-none}
 use Rattle.reader.specs.Told.{entry, below}
 use Rattle.reader.proofs.Searches.{below-out, lowest-same, searched}
 use Rattle.regions.specs.Moves.{moveAt}
-use Rattle.product.specs.Stepping.{PlaceBounds, firesAt, blocksAt, Steps}
+use Rattle.product.specs.Stepping.{PlaceBounds, blocksAt, Steps}
 
 -- what a row of moves has for event e on machine k
 abbrev entryOf : List ℕ → ℕ → ℕ → ℕ
@@ -41,16 +41,16 @@ module _ (pre post places : List ℕ) (e k : ℕ) where
   abbrev goes : Bool → Option ℕ
   goes on = moveFrom (entry places k) (cond on (some (record { pre = entryOf pre e k; post = entryOf post e k })) none)
 
-  ready-fires : T (ready pre places e k) → firesAt pre post places e k ≡ some (cond (ltb (entryOf pre e k) 64) (entryOf post e k) (entry places k))
-  unfolding firesAt moveAt moveFrom
+  ready-fires : T (ready pre places e k) → fire (moveAt pre post) k e (entry places k) ≡ some (cond (ltb (entryOf pre e k) 64) (entryOf post e k) (entry places k))
+  unfolding fire moveAt moveFrom
   ready-fires = go (ltb (entryOf pre e k) 64)
     where
       go : (on : Bool) → T (not on || eqb (entry places k) (entryOf pre e k)) → goes on ≡ some (cond on (entryOf post e k) (entry places k))
       go false t = refl
       go true t = rw (T-true (eqb (entry places k) (entryOf pre e k)) t)
 
-  blocks-fires : blocksAt pre places e k ≡ not (isSome (firesAt pre post places e k))
-  unfolding blocksAt firesAt moveAt moveFrom isSome
+  blocks-fires : blocksAt pre places e k ≡ not (isSome (fire (moveAt pre post) k e (entry places k)))
+  unfolding blocksAt fire moveAt moveFrom isSome
   blocks-fires = go (ltb (entryOf pre e k) 64)
     where
       here : (stands : Bool) → not stands ≡ not (isSome (cond stands (some (entryOf post e k)) none))
@@ -82,11 +82,11 @@ module _ {pre : List ℕ} {machines : ℕ} {places : List ℕ} {e : ℕ} where
         at k (inl b) c = p .passed k b
         at k (inr b) c = let q : k ≡ machines - left = omega arith in rw (q, blocks-turn, t) tt
 
-    pub pass-found : not stands ≡ true → below machines (machines - left) ≡ lowest (blocksAt pre places e) machines
-    pass-found t = searched (blocksAt pre places e) machines (machines - left) (omega arith) (p .passed) (λ i. rw (blocks-turn, t) tt)
+    pub pass-found : not stands ≡ true → (machines - left ≤ machines) × (below machines (machines - left) ≡ lowest (blocksAt pre places e) machines)
+    pass-found t = (omega arith, searched (blocksAt pre places e) machines (machines - left) (omega arith) (p .passed) (λ i. rw (blocks-turn, t) tt))
 
-  pub pass-end : {left : ℕ} → Passing pre machines places e left → left ≤ 0 → below machines machines ≡ lowest (blocksAt pre places e) machines
-  pass-end p l = searched (blocksAt pre places e) machines machines (omega arith) (λ k i. p .passed k (omega arith)) (λ i. absurd (omega arith))
+  pub pass-end : {left : ℕ} → Passing pre machines places e left → left ≤ 0 → (machines ≤ machines) × (below machines machines ≡ lowest (blocksAt pre places e) machines)
+  pass-end p l = (omega arith, searched (blocksAt pre places e) machines machines (omega arith) (λ k i. p .passed k (omega arith)) (λ i. absurd (omega arith)))
 
 -- a machine that blocks
 pub record Blocking (pre : List ℕ) (machines : ℕ) (places : List ℕ) (e : ℕ) : Type 0 where
@@ -98,7 +98,7 @@ pub record Blocking (pre : List ℕ) (machines : ℕ) (places : List ℕ) (e : �
 pub record Lanes (pre post : List ℕ) (machines : ℕ) (places : List ℕ) (e : ℕ) (moved : List ℕ) (all : Bool) (m : ℕ) : Type 0 where
   pub most : m ≤ 16
   pub size : length moved ≡ 16
-  pub went : T all → (k : ℕ) → k < m → k < machines → firesAt pre post places e k ≡ some (entry moved k)
+  pub went : T all → (k : ℕ) → k < m → k < machines → fire (moveAt pre post) k e (entry places k) ≡ some (entry moved k)
   pub halted : T (not all) → Blocking pre machines places e
   pub later : (k : ℕ) → m ≤ k → entry moved k ≡ entry places k
   pub unused : (k : ℕ) → machines ≤ k → entry moved k ≡ entry places k
@@ -109,7 +109,7 @@ module _ {pre post : List ℕ} {machines : ℕ} {places : List ℕ} {e : ℕ} wh
 
   module _ {moved : List ℕ} {all : Bool} {m : ℕ} (z : Lanes pre post machines places e moved all m) (l : m < 16) where
     -- one number more: `stands` says whether its machine is ready, and q where it goes
-    lane-on : (stands : Bool) (q : ℕ) → (T stands → m < machines → firesAt pre post places e m ≡ some q)
+    lane-on : (stands : Bool) (q : ℕ) → (T stands → m < machines → fire (moveAt pre post) m e (entry places m) ≡ some q)
         → (T (not stands) → Blocking pre machines places e) → (machines ≤ m → q ≡ entry places m)
         → Lanes pre post machines places e (set moved m q) (all && stands) (m + 1)
     lane-on stands q goes-on stops stays =
@@ -128,7 +128,7 @@ module _ {pre post : List ℕ} {machines : ℕ} {places : List ℕ} {e : ℕ} wh
         same : (k : ℕ) → ¬ (k ≡ m) → entry (set moved m q) k ≡ entry moved k
         same k n = getD-set-other moved m k q 0 n
 
-        at : T (all && stands) → (k : ℕ) → Dec (k ≡ m) → k ≤ m → k < machines → firesAt pre post places e k ≡ some (entry (set moved m q) k)
+        at : T (all && stands) → (k : ℕ) → Dec (k ≡ m) → k ≤ m → k < machines → fire (moveAt pre post) k e (entry places k) ≡ some (entry (set moved m q) k)
         at t k (yes s) c j = rw (s, here) (goes-on (and-r all stands t) (omega arith))
         at t k (no n) c j = z .went (and-l all stands t) k (omega arith) j ∙ ap some (sym (same k n))
 
@@ -163,23 +163,25 @@ module _ {pre post : List ℕ} {machines : ℕ} {places : List ℕ} {e : ℕ} wh
     unfolding isSome
     lane-end t =
         record {
+          most = omega arith;
           blocker =
-              searched (λ k. not (isSome (firesAt pre post places e k))) machines machines (omega arith) (λ k i. rw (went k i) tt) (λ i. absurd (omega arith));
+              searched (λ k. not (isSome (fire (moveAt pre post) k e (entry places k)))) machines machines (omega arith) (λ k i. rw (went k i) tt) (λ i. absurd (omega arith));
           stay = λ i. absurd (omega arith);
           size = z .size;
           move = λ i. went;
           others = z .unused;
         }
       where
-        went : (k : ℕ) → k < machines → firesAt pre post places e k ≡ some (entry moved k)
+        went : (k : ℕ) → k < machines → fire (moveAt pre post) k e (entry places k) ≡ some (entry moved k)
         went k i = z .went (rw t tt) k (omega arith) i
 
     -- one blocks, and the search finds the lowest
-    pub lane-blocked : length places ≡ 16 → all ≡ false → {r : ℕ} → below machines r ≡ lowest (blocksAt pre places e) machines
+    pub lane-blocked : length places ≡ 16 → all ≡ false → {r : ℕ} → (r ≤ machines) × (below machines r ≡ lowest (blocksAt pre places e) machines)
         → Steps pre post machines places e (record { blocker = r; places = places })
     lane-blocked s t {r} f =
         record {
-          blocker = f ∙ lowest-same (blocksAt pre places e) (λ k. not (isSome (firesAt pre post places e k))) machines (λ k i. blocks-fires pre post places e k);
+          most = f .0;
+          blocker = f .1 ∙ lowest-same (blocksAt pre places e) (λ k. not (isSome (fire (moveAt pre post) k e (entry places k)))) machines (λ k i. blocks-fires pre post places e k);
           stay = λ i. refl;
           size = s;
           move = λ i. absurd (ends i (z .halted (rw t tt)));
@@ -188,5 +190,5 @@ module _ {pre post : List ℕ} {machines : ℕ} {places : List ℕ} {e : ℕ} wh
       where
         ends : machines ≤ r → Blocking pre machines places e → ⊥
         ends i b =
-            let none-found = lowest-none (blocksAt pre places e) machines (sym f ∙ below-out machines r i) (b .machine) (b .among) in
+            let none-found = lowest-none (blocksAt pre places e) machines (sym (f .1) ∙ below-out machines r i) (b .machine) (b .among) in
             contra (blocksAt pre places e (b .machine)) none-found (b .blocks)

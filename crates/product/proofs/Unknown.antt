@@ -4,15 +4,16 @@ use native.Mathlib.Omega.{arith}
 use mathlib.Core.Path.{_≡_, refl, sym, _∙_}
 use mathlib.Core.Bool.{Bool, true, false, not, cond, _&&_}
 use mathlib.Core.List.{List, [], _∷_}
+use mathlib.Core.Option.{Option}
 use borrow.Author.Tests.{lt-ltb, le-ltb}
 use lib.Dec.{T, ltb, ltb→lt, leb·suc-suc}
 use lib.ListN.{length}
 use Rattle.model.specs.Lists.{every, index}
 use Rattle.model.specs.Refusal.{refused, passed}
 use Rattle.model.specs.Cases.{tabled}
-use Rattle.model.specs.TransitionSystem.{TransitionSystem, declared}
-use Rattle.model.specs.Machine.{Decomposition}
-use Rattle.model.specs.Services.{runFrom, runEvents}
+use Rattle.model.specs.TransitionSystem.{declared}
+use Rattle.model.specs.Product.{Move, runFrom}
+use Rattle.model.specs.Services.{runEvents}
 use Rattle.model.specs.declared.Refusal.the-variants.{UnknownEvent}
 use Rattle.model.proofs.Laws.{every-elim}
 use Rattle.model.proofs.Positions.{getD-mem}
@@ -49,14 +50,14 @@ module _ (events : List ℕ) (n : ℕ) {position : ℕ} (v : position ≡ index 
       let t : T (every (λ e. ltb e n) events) = rw (known-test, le-ltb position (length events) h) tt in
       ltb→lt (entry events i) n (every-elim (λ e. ltb e n) events t (entry events i) (getD-mem events i 0 l))
 
-  module _ (ts : TransitionSystem) (ms : Decomposition) (qs : List ℕ) (d : n ≡ ts .events) where
-    pub runs-known : length events ≤ position → runEvents ts ms qs events ≡ passed (runFrom ts ms qs events)
+  module _ {M : Type 0} (moves : M → ℕ → Option Move) (ms : List M) (qs : List ℕ) where
+    pub runs-known : length events ≤ position → runEvents moves n ms qs events ≡ passed (runFrom moves ms qs events)
     unfolding declared
-    runs-known h = events-declared ts ms qs events (rw (sym d, known-test, le-ltb position (length events) h) tt)
+    runs-known h = events-declared moves n ms qs events (rw (known-test, le-ltb position (length events) h) tt)
 
     -- it stopped before: 14
-    pub runs-unknown : position < length events → runEvents ts ms qs events ≡ refused (tabled (UnknownEvent position))
+    pub runs-unknown : position < length events → runEvents moves n ms qs events ≡ refused (tabled (UnknownEvent position))
     unfolding declared tabled
     runs-unknown h =
-        let t : T (not (declared ts events)) = rw (sym d, known-test, lt-ltb position (length events) h) tt in
-        rw (events-unknown ts ms qs events t, v, d)
+        let t : T (not (declared n events)) = rw (known-test, lt-ltb position (length events) h) tt in
+        rw (events-unknown moves n ms qs events t, v)

@@ -82,7 +82,7 @@ fn place_after(on: bool, to: u8, place: u8) -> u8
 // The lowest machine that has event e and stands elsewhere than in its pre-place; their count if there is none.
 fn blocking_machine(pre: &[u8], machines: usize, places: [u8; MAX_MACHINES], e: usize) -> usize
     requires { ⌜ (machines ≤ 16) × (e < 64) × (length (now pre) ≡ 1024) ⌝ }
-    ensures { λ r. ⌜ below machines r ≡ lowest (blocksAt (now (pre .entry)) places e) machines ⌝ }
+    ensures { λ r. ⌜ (r ≤ machines) × (below machines r ≡ lowest (blocksAt (now (pre .entry)) places e) machines) ⌝ }
 {
     let at = e * MAX_MACHINES;
     let mut left = machines;

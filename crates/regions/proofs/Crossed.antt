@@ -9,7 +9,8 @@ use lib.Dec.{T, eqb, ltb}
 use borrow.Author.Tests.{lt-ltb}
 use Rattle.model.specs.Lists.{every}
 use Rattle.model.specs.TransitionSystem.{Transition, TransitionSystem}
-use Rattle.model.specs.Machine.{Machine, Move, placeOf, move, uniform}
+use Rattle.model.specs.Product.{Move}
+use Rattle.model.specs.Machine.{Machine, placeOf, move, uniform}
 use Rattle.model.proofs.Laws.{dec, T-true, T-false, contra, not-T}
 use Rattle.reader.specs.Told.{entry, transitionAt}
 use Rattle.reader.proofs.Fronts.{at-listed, front-member}

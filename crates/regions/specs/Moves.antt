@@ -9,7 +9,8 @@ use lib.Dec.{ltb}
 use lib.ListN.{length}
 use Rattle.model.specs.Lists.{At}
 use Rattle.model.specs.TransitionSystem.{TransitionSystem}
-use Rattle.model.specs.Machine.{Machine, Decomposition, Move, move}
+use Rattle.model.specs.Product.{Move}
+use Rattle.model.specs.Machine.{Machine, Decomposition, move}
 use Rattle.reader.specs.Told.{entry}
 
 unfoldable pub moveAt : List ℕ → List ℕ → ℕ → ℕ → Option Move

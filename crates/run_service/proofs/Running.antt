@@ -4,10 +4,13 @@ use native.Mathlib.Omega.{arith}
 use mathlib.Core.Path.{_≡_, ap, sym, _∙_}
 use mathlib.Core.Bool.{true}
 use mathlib.Core.List.{List}
+use lib.ListN.{length}
 use Rattle.model.specs.declared.Refusal as D
 use Rattle.model.specs.Cases.{tabled}
+use Rattle.model.specs.Lists.{numbers}
 use Rattle.model.specs.Refusal.{refused}
-use Rattle.model.specs.Machine.{Decomposition, places, effective}
+use Rattle.model.specs.Product.{effective}
+use Rattle.model.specs.Machine.{Decomposition, places, move}
 use Rattle.model.specs.Text.{Input, system}
 use Rattle.model.specs.Services as Services
 use Rattle.model.specs.Services.{asFarAs12}
@@ -15,12 +18,16 @@ use Rattle.model.proofs.Laws.{T-true}
 use Rattle.model.proofs.Positions.{below-at, at-value}
 use Rattle.model.proofs.Simulate.{covers-of}
 use Rattle.model.proofs.Standing.{at-places, length-places}
+use Rattle.model.proofs.Together.{SameMoves, same-effective}
+use Rattle.model.proofs.Refusing.{same-events}
 use Rattle.reader.specs.declared.Tables.{Tables}
 use Rattle.reader.specs.Told.{entry}
 use Rattle.reader.proofs.Bounds.{limits}
 use Rattle.reader.proofs.Telling.{told-place, told-events, told-initial}
+use Rattle.regions.specs.Moves.{moveAt}
 use Rattle.product.specs.Stepping.{Standing, RunsEvents}
 use Rattle.product.proofs.Places.{stands-padded}
+use Rattle.product.proofs.Told.{told-moves}
 use Rattle.stages.specs.Stages.{Judged}
 use Rattle.stages.proofs.Stages.{past-12, machines-pass}
 
@@ -36,9 +43,18 @@ module _ {s : List ℕ} {p : Tables} {pre post excited : List ℕ} (j : Judged s
   abbrev machines : Decomposition
   machines = value .machines
 
+  counted : p .machines ≡ length machines
+  counted = j .past .held .told .tells-machines .counted
+
+  -- the rows tell the machines' moves
+  same : (e : ℕ) → e < system value .events → SameMoves (moveAt pre post) (move (system value)) (numbers (p .machines)) machines e
+  same = told-moves (j .past .cover .moves) counted
+
   -- past 11 each event is on a machine
-  on-a-machine : (e : ℕ) → e < system value .events → effective (system value) machines e ≡ true
-  on-a-machine e l = T-true (effective (system value) machines e) (covers-of (system value) machines (j .covered) .effective e l)
+  on-a-machine : (e : ℕ) → e < system value .events → effective (moveAt pre post) (numbers (p .machines)) e ≡ true
+  on-a-machine e l =
+      same-effective (moveAt pre post) (move (system value)) (numbers (p .machines)) machines e (same e l)
+      ∙ T-true (effective (move (system value)) machines e) (covers-of (system value) machines (j .covered) .effective e l)
 
   abbrev start : List ℕ
   start = places machines (value .initial)
@@ -46,7 +62,6 @@ module _ {s : List ℕ} {p : Tables} {pre post excited : List ℕ} (j : Judged s
   stands : (row : List ℕ) → Standing (λ k. entry (p .place) (k * 256 + p .initial)) (p .machines) row → row ≡ Services.padded start
   stands row t =
       let n = length-places machines (value .initial) in
-      let counted = j .past .held .told .tells-machines .counted in
       let limit = limits s value (j .past .held .passes) in
       stands-padded start (omega (arith, j .past .cover .machines, n))
       (record {
@@ -65,13 +80,13 @@ module _ {s : List ℕ} {p : Tables} {pre post excited : List ℕ} (j : Judged s
       → RunsEvents pre post (p .machines) (p .events) row es a → a ≡ Services.run s es
   unfolding Services.run
   ran es row t answers =
+      let n = told-events (j .past .held .told) in
       rw (past-12 j)
-      (answers (system value) machines start
+      (answers start
       (record {
-        moves = j .past .cover .moves;
-        effective = on-a-machine;
-        counted = j .past .held .told .tells-machines .counted;
-        one-each = length-places machines (value .initial);
+        effective = λ e l. on-a-machine e (omega (arith, n, l));
+        one-each = length-places machines (value .initial) ∙ sym counted;
         standing = stands row t;
       })
-      (told-events (j .past .held .told)))
+      ∙ ap (λ (k : ℕ). Services.ranAnswer (Services.runEvents (moveAt pre post) k (numbers (p .machines)) start es)) n
+      ∙ ap Services.ranAnswer (same-events (moveAt pre post) (move (system value)) (length (value .names)) (numbers (p .machines)) machines start es same))

@@ -10,7 +10,7 @@ use lib.Dec.{ltb, lt→ltb}
 use lib.ListN.{length, getD, take, drop, length-append, length-drop, List·getD-append}
 use lib.Seq.{getD-at, length-take-le}
 use Rattle.model.specs.Bytes.{Name}
-use Rattle.model.specs.Machine.{Move}
+use Rattle.model.specs.Product.{Move}
 use Rattle.model.specs.Sheet.{addMove, moveBytes, writtenMove}
 use Rattle.model.proofs.Laws.{cond-true, cond-false, not-below, below-suc, order}
 use Rattle.model.proofs.ListLaws.{flatMap-append}

@@ -39,7 +39,7 @@ module _ {s : List ℕ} {p : Tables} {pre post excited : List ℕ} (k : Past10 s
   refused-by-cover {why} e = thin-refused s why (refused-cover k why (subst (ThinsTo (system (k .held .value)) (k .held .value .machines)) e told))
 
   pub kept : {x : Kept} → r ≡ R.To x → thinned (T.Kept (x .machines) (x .size)) ≡ numberedSet (Services.thin s)
-  unfolding Services.thin thinned numberedSet ThinsTo
+  unfolding Services.thin Services.keptOf thinned numberedSet ThinsTo
   kept e =
       let (covered, keeps) = subst (ThinsTo (system (k .held .value)) (k .held .value .machines)) e told in
       rw (covered-12 k covered, keeps .machines, keeps .size)

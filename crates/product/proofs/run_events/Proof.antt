@@ -2,7 +2,9 @@
 use native.Mathlib.Omega.{arith}
 use mathlib.Core.Path.{_∙_, sym, ap}
 use borrow.Author.Needs.{needs}
+use Rattle.model.specs.Lists.{numbers}
 use Rattle.model.specs.Services.{ranAnswer}
+use Rattle.regions.specs.Moves.{moveAt}
 use Rattle.product.proofs.Unknown.{all-known, runs-known, runs-unknown}
 use Rattle.product.proofs.run_events.Statement.{statement}
 use Rattle.product.proofs.run_events.Tie as tie
@@ -14,9 +16,9 @@ refused-requires : tie.Need-refused-requires
 refused-requires c κs = search needs
 
 returns : tie.Need-returns
-returns c ts ms qs r d =
+returns c qs r =
     let searched = c .before .before .«unknown-event» .ensures in
-    c .refused .ensures ∙ ap ranAnswer (sym (runs-unknown _ _ searched ts ms qs d (c .before .if1 .taken)))
+    c .refused .ensures ∙ ap ranAnswer (sym (runs-unknown _ _ searched (moveAt _ _) (numbers _) qs (c .before .if1 .taken)))
 
 run-from-requires : tie.Need-run-from-requires
 run-from-requires c κs =
@@ -24,10 +26,10 @@ run-from-requires c κs =
     (start .pre .0, start .pre .2, λ i l. omega (arith, start .pre .1, all-known _ _ (c .before .«unknown-event» .ensures) (c .if1 .left) i l))
 
 returns-2 : tie.Need-returns-2
-returns-2 c ts ms qs r d =
+returns-2 c qs r =
     let searched = c .before .before .«unknown-event» .ensures in
     let known = c .before .if1 .left in
-    c .«run-from» .ensures ts ms qs r (rw (sym d) (all-known _ _ searched known)) ∙ ap ranAnswer (sym (runs-known _ _ searched ts ms qs d known))
+    c .«run-from» .ensures _ qs r (all-known _ _ searched known) ∙ ap ranAnswer (sym (runs-known _ _ searched (moveAt _ _) (numbers _) qs known))
 
 pub run-events-spec : {M : Type 1} → statement M
 run-events-spec =
