@@ -3,16 +3,16 @@ use Prim.Native.Nat.{ℕ, zero, suc, _-_, _≤_, _<_}
 use native.Mathlib.Omega.{arith}
 use mathlib.Core.Path.{_≡_, refl, ap, sym, _∙_, subst}
 use mathlib.Core.Logic.{_⊎_, inl, inr, _↔_}
-use mathlib.Core.Bool.{not, cond}
+use mathlib.Core.Bool.{not}
 use mathlib.Core.List.{List, [], _∷_, _++_, List·Memᴰ}
 use mathlib.Core.Option.{Option, none, some, Option·map, Option·some-injective, Option·none-ne-some, Option·some-ne-none}
 use lib.Dec.{T, eqb, eqb→eq}
 use lib.ListN.{length, take, getD, replicate, length-append, length-replicate, List·getD-append}
 use lib.Seq.{take-at}
-use Rattle.model.specs.Lists.{At, isSome}
+use Rattle.model.specs.Lists.{isSome}
 use Rattle.model.specs.Refusal.{Refusal, passed}
 use Rattle.model.specs.TransitionSystem.{TransitionSystem, systemStep, runs, andThen, systemRuns, transitionsRefusal}
-use Rattle.model.specs.Product.{Move, moveFrom, both, Ran, oneMore, effective, fire, fireAll, productStep, blocker, runFrom}
+use Rattle.model.specs.Product.{Move, moveFrom, Ran, effective, fire, fireAll, blocker, runFrom}
 use Rattle.model.specs.Machine.{Machine, Decomposition, places, move, productRuns}
 use Rattle.model.specs.Region.{Walk, Stands, MachinesRun}
 use Rattle.model.specs.Services.{whole, blocked, refusedBy, outcomeOf, padded, ranAnswer}

@@ -8,7 +8,7 @@ use mathlib.Core.Option.{Option, none, some, Option·some-injective, Option·non
 use lib.Dec.{T}
 use lib.ListN.{length, getD}
 use Rattle.model.specs.Lists.{At, exists, isSome}
-use Rattle.model.specs.Product.{Move, moveFrom, both, Ran, oneMore, inAlphabet, effective, fire, fireAll, productStep, blocker, runFrom}
+use Rattle.model.specs.Product.{Move, both, Ran, oneMore, inAlphabet, effective, fire, fireAll, productStep, blocker, runFrom}
 use Rattle.model.proofs.Laws.{cond-true}
 
 module _ {M E : Type 0} (moves : M → E → Option Move) where
@@ -77,6 +77,14 @@ module _ {M E : Type 0} (moves : M → E → Option Move) where
           → (both o (fireAll moves e ms qs) ≡ none) × (cond (isSome o) (suc (blocker moves ms qs e)) 0 ≡ suc k)
       go none f ih = absurd (rw f at (h .lower 0 m (omega arith) refl))
       go (some r) f ih = (rw (ih .0), ap suc (ih .1))
+
+  -- no machine blocks
+  pub none-blocks : (e : E) (ms : List M) (qs : List ℕ) → length qs ≡ length ms → ((k : ℕ) (m : M) → At ms k m → T (isSome (fire moves m e (getD qs k 0))))
+      → blocker moves ms qs e ≡ length ms
+  unfolding blocker
+  none-blocks e [] qs p f = refl
+  none-blocks e (m ∷ ms) [] p f = absurd (omega arith)
+  none-blocks e (m ∷ ms) (q ∷ qs) p f = cond-true (isSome (fire moves m e q)) (suc (blocker moves ms qs e)) 0 (f 0 m refl) ∙ ap suc (none-blocks e ms qs (omega arith) (λ k. f (suc k)))
 
   -- one place for each machine
   fired : (e : E) (ms : List M) (qs rs : List ℕ) → fireAll moves e ms qs ≡ some rs → length rs ≡ length ms

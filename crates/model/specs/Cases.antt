@@ -1,4 +1,4 @@
--- The types of the code in the model's words; each is told whole (proofs/Cases).
+-- The types of the code in the model's words. Each is told whole (proofs/Cases: tabled-injective, records-injective).
 -- Believed: all of it.
 use Rattle.model.specs.declared.Refusal.the-variants as C
 use Rattle.model.specs.declared.Refusal as D

@@ -1,5 +1,6 @@
 -- Running together: the synchronous product of machines that are known by their moves alone. Document 01, "Vocabulary" and "Services".
--- Held for the machines of a text by demand2: one event and a list of them (`machines`), what is told of a list (`running`).
+-- Believed: `Ran`, of which Printed says what is printed. Held by demand2 for the machines of a text, each standing in a place: one event and a list of them
+-- (`machines`), what is told of a list (`running`).
 use Prim.Native.Nat.{ℕ, suc}
 use mathlib.Core.Bool.{Bool, cond}
 use mathlib.Core.List.{List, [], _∷_}
@@ -58,7 +59,7 @@ module _ {M E : Type 0} (moves : M → E → Option Move) where
   unfoldable pub productStep : List M → List ℕ → E → Option (List ℕ)
   productStep ms qs e = cond (effective ms e) (fireAll e ms qs) none
 
-  -- the lowest machine that blocks e
+  -- the lowest machine that blocks e; their count if none does
   unfoldable pub blocker : List M → List ℕ → E → ℕ
   blocker [] qs e = 0
   blocker (m ∷ ms) [] e = 0

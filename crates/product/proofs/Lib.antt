@@ -2,9 +2,9 @@
 
 -- the row of the machines' places
 pub mod Places
--- an event on the machines together: by the rows of their moves, and in the model's words
-pub mod Moving
+-- an event on the machines together: in the model's words, and by the rows of their moves
 pub mod Firing
+pub mod Moving
 -- the machines of a text
 pub mod Told
 -- events that are not declared

@@ -9,15 +9,16 @@ use mathlib.Core.Option.{Option, none, some}
 use mathlib.Core.Bool.{Bool, true, false, not, cond, _&&_, _||_}
 use borrow.Author.Tests.{le-ltb}
 use lib.Dec.{T, eqb, ltb}
-use lib.ListN.{length, set, length-set}
+use lib.ListN.{length, take, set, length-set}
 use lib.Seq.{getD-set-same, getD-set-other}
-use Rattle.model.specs.Lists.{isSome, lowest}
-use Rattle.model.specs.Product.{moveFrom, fire}
-use Rattle.model.proofs.Laws.{T-true, and-l, and-r, and-not, contra, order, lowest-none}
+use Rattle.model.specs.Lists.{isSome, lowest, numbers}
+use Rattle.model.specs.Product.{moveFrom, fire, fireAll, blocker}
+use Rattle.model.proofs.Laws.{T-true, and-l, and-r, and-not, contra, order, not-le, lowest-none}
 use Rattle.reader.specs.Told.{entry, below}
 use Rattle.reader.proofs.Searches.{below-out, lowest-same, searched}
 use Rattle.regions.specs.Moves.{moveAt}
 use Rattle.product.specs.Stepping.{PlaceBounds, blocksAt, Steps}
+use Rattle.product.proofs.Firing.{rows-go, rows-halt, rows-pass}
 
 -- what a row of moves has for event e on machine k
 abbrev entryOf : List ℕ → ℕ → ℕ → ℕ
@@ -159,16 +160,18 @@ module _ {pre post : List ℕ} {machines : ℕ} {places : List ℕ} {e : ℕ} wh
 
   module _ {moved : List ℕ} {all : Bool} {m : ℕ} (z : Lanes pre post machines places e moved all m) (few : machines ≤ 16) (l : 16 ≤ m) where
     -- none blocks
-    pub lane-end : all ≡ true → Steps pre post machines places e (record { blocker = machines; places = moved })
+    pub lane-end : length places ≡ 16 → all ≡ true → Steps pre post machines places e (record { blocker = machines; places = moved })
     unfolding isSome
-    lane-end t =
+    lane-end s t =
         record {
           most = omega arith;
           blocker =
-              searched (λ k. not (isSome (fire (moveAt pre post) k e (entry places k)))) machines machines (omega arith) (λ k i. rw (went k i) tt) (λ i. absurd (omega arith));
-          stay = λ i. absurd (omega arith);
+              sym (rows-pass pre post machines places e (omega (arith, s)) (omega arith)
+              (searched (λ k. not (isSome (fire (moveAt pre post) k e (entry places k)))) machines machines (omega arith) (λ k i. rw (went k i) tt) (λ i. absurd (omega arith)))
+              (omega arith));
+          halts = λ i. absurd (omega arith);
+          goes = λ i. rows-go pre post machines places e (omega (arith, s)) moved (omega (arith, z .size)) went;
           size = z .size;
-          move = λ i. went;
           others = z .unused;
         }
       where
@@ -181,14 +184,22 @@ module _ {pre post : List ℕ} {machines : ℕ} {places : List ℕ} {e : ℕ} wh
     lane-blocked s t {r} f =
         record {
           most = f .0;
-          blocker = f .1 ∙ lowest-same (blocksAt pre places e) (λ k. not (isSome (fire (moveAt pre post) k e (entry places k)))) machines (λ k i. blocks-fires pre post places e k);
-          stay = λ i. refl;
+          blocker = sym (halted .1);
+          halts = λ i. (halted .0, refl);
+          goes = λ i. absurd (omega (arith, stops));
           size = s;
-          move = λ i. absurd (ends i (z .halted (rw t tt)));
           others = λ k i. refl;
         }
       where
-        ends : machines ≤ r → Blocking pre machines places e → ⊥
-        ends i b =
+        ends : Blocking pre machines places e → machines ≤ r → ⊥
+        ends b i =
             let none-found = lowest-none (blocksAt pre places e) machines (sym (f .1) ∙ below-out machines r i) (b .machine) (b .among) in
             contra (blocksAt pre places e (b .machine)) none-found (b .blocks)
+
+        stops : r < machines
+        stops = not-le machines r (ends (z .halted (rw t tt)))
+
+        halted : (fireAll (moveAt pre post) e (numbers machines) (take machines places) ≡ none) × (blocker (moveAt pre post) (numbers machines) (take machines places) e ≡ r)
+        halted =
+            rows-halt pre post machines places e (omega (arith, s)) (f .0)
+            (f .1 ∙ lowest-same (blocksAt pre places e) (λ k. not (isSome (fire (moveAt pre post) k e (entry places k)))) machines (λ k i. blocks-fires pre post places e k)) stops

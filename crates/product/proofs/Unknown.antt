@@ -1,7 +1,7 @@
 -- 14: the search for an event that is not declared, and what it tells of the list.
 use Prim.Native.Nat.{ℕ, suc, _<_, _≤_}
 use native.Mathlib.Omega.{arith}
-use mathlib.Core.Path.{_≡_, refl, sym, _∙_}
+use mathlib.Core.Path.{_≡_, refl, _∙_}
 use mathlib.Core.Bool.{Bool, true, false, not, cond, _&&_}
 use mathlib.Core.List.{List, [], _∷_}
 use mathlib.Core.Option.{Option}
@@ -20,7 +20,6 @@ use Rattle.model.proofs.Positions.{getD-mem}
 use Rattle.model.proofs.Refusing.{events-declared, events-unknown}
 use Rattle.reader.specs.Told.{entry}
 use Rattle.reader.proofs.Searches.{Upto, index-is}
-use Rattle.product.specs.Stepping.{EventsBelow}
 
 -- the search stops at an event that is not declared, or at the end
 pub unknown-first : (declared : ℕ) (events : List ℕ) {i : ℕ} → Upto (λ j. entry events j < declared) (length events) i
@@ -45,7 +44,7 @@ module _ (events : List ℕ) (n : ℕ) {position : ℕ} (v : position ≡ index 
   known-test = rw v (every-index (λ e. ltb e n) events)
 
   -- the search came to the end: each event is declared
-  pub all-known : length events ≤ position → EventsBelow n events
+  pub all-known : length events ≤ position → (i : ℕ) → i < length events → entry events i < n
   all-known h i l =
       let t : T (every (λ e. ltb e n) events) = rw (known-test, le-ltb position (length events) h) tt in
       ltb→lt (entry events i) n (every-elim (λ e. ltb e n) events t (entry events i) (getD-mem events i 0 l))

@@ -11,7 +11,7 @@ ghost use Rattle.model.specs.Services.{ranAnswer};
 ghost use Rattle.reader.specs.Told.{entry, below};
 ghost use Rattle.regions.specs.Moves.{MoveRows};
 ghost use Rattle.product.specs.Answers.{runAnswer};
-ghost use Rattle.product.specs.Stepping.{Standing, PlaceBounds, blocksAt, Steps, EventsBelow, RunsFrom, RunsEvents};
+ghost use Rattle.product.specs.Stepping.{Standing, PlaceBounds, blocksAt, Steps, IsPadded, EventsOn, RunsFrom, Runs, RunsEvents};
 use model::MAX_MACHINES;
 use model::MAX_PLACES;
 use model::MAX_STATES;
@@ -166,7 +166,7 @@ fn run_from<'a>(
     start: [u8; MAX_MACHINES],
     events: &'a [u8],
 ) -> RunAnswer
-    requires { ⌜ (machines ≤ 16) × MoveRows (now pre) (now post) × EventsBelow 64 (now events) ⌝ }
+    requires { ⌜ (machines ≤ 16) × MoveRows (now pre) (now post) × IsPadded machines start × EventsOn (now pre) (now post) machines (now events) ⌝ }
     ensures { λ r. ⌜ RunsFrom (now (pre .entry)) (now (post .entry)) machines start (now (events .entry)) (runAnswer r) ⌝ }
 {
     let bounds = place_bounds(machines);
@@ -202,7 +202,7 @@ pub fn run_events<'a>(
     start: [u8; MAX_MACHINES],
     events: &'a [u8],
 ) -> RunAnswer
-    requires { ⌜ (machines ≤ 16) × (declared ≤ 64) × MoveRows (now pre) (now post) ⌝ }
+    requires { ⌜ Runs (now pre) (now post) machines declared start ⌝ }
     ensures { λ r. ⌜ RunsEvents (now (pre .entry)) (now (post .entry)) machines declared start (now (events .entry)) (runAnswer r) ⌝ }
 {
     let position = unknown_event(events, declared);

@@ -1,20 +1,19 @@
 -- Run, by its ways out.
-use Prim.Native.Nat.{ℕ, _+_, _*_, _<_}
+use Prim.Native.Nat.{ℕ, _+_, _*_, _-_, _<_}
 use native.Mathlib.Omega.{arith}
-use mathlib.Core.Path.{_≡_, ap, sym, _∙_}
-use mathlib.Core.Bool.{true}
+use mathlib.Core.Path.{_≡_, ap, sym, _∙_, subst}
 use mathlib.Core.List.{List}
-use lib.ListN.{length}
+use lib.Dec.{T}
+use lib.ListN.{length, take, replicate}
+use lib.Seq.{take-at}
 use Rattle.model.specs.declared.Refusal as D
 use Rattle.model.specs.Cases.{tabled}
 use Rattle.model.specs.Lists.{numbers}
 use Rattle.model.specs.Refusal.{refused}
-use Rattle.model.specs.Product.{effective}
 use Rattle.model.specs.Machine.{Decomposition, places, move}
 use Rattle.model.specs.Text.{Input, system}
 use Rattle.model.specs.Services as Services
 use Rattle.model.specs.Services.{asFarAs12}
-use Rattle.model.proofs.Laws.{T-true}
 use Rattle.model.proofs.Positions.{below-at, at-value}
 use Rattle.model.proofs.Simulate.{covers-of}
 use Rattle.model.proofs.Standing.{at-places, length-places}
@@ -25,7 +24,7 @@ use Rattle.reader.specs.Told.{entry}
 use Rattle.reader.proofs.Bounds.{limits}
 use Rattle.reader.proofs.Telling.{told-place, told-events, told-initial}
 use Rattle.regions.specs.Moves.{moveAt}
-use Rattle.product.specs.Stepping.{Standing, RunsEvents}
+use Rattle.product.specs.Stepping.{Standing, IsOn, Runs, RunsEvents}
 use Rattle.product.proofs.Places.{stands-padded}
 use Rattle.product.proofs.Told.{told-moves}
 use Rattle.stages.specs.Stages.{Judged}
@@ -51,10 +50,10 @@ module _ {s : List ℕ} {p : Tables} {pre post excited : List ℕ} (j : Judged s
   same = told-moves (j .past .cover .moves) counted
 
   -- past 11 each event is on a machine
-  on-a-machine : (e : ℕ) → e < system value .events → effective (moveAt pre post) (numbers (p .machines)) e ≡ true
+  on-a-machine : (e : ℕ) → e < system value .events → IsOn pre post (p .machines) e
   on-a-machine e l =
-      same-effective (moveAt pre post) (move (system value)) (numbers (p .machines)) machines e (same e l)
-      ∙ T-true (effective (move (system value)) machines e) (covers-of (system value) machines (j .covered) .effective e l)
+      subst T (sym (same-effective (moveAt pre post) (move (system value)) (numbers (p .machines)) machines e (same e l)))
+      (covers-of (system value) machines (j .covered) .effective e l)
 
   abbrev start : List ℕ
   start = places machines (value .initial)
@@ -76,17 +75,28 @@ module _ {s : List ℕ} {p : Tables} {pre post excited : List ℕ} (j : Judged s
         unused = λ k l. t .unused k (omega (arith, n, counted));
       })
 
-  pub ran : (es row : List ℕ) {a : Services.RunAnswer} → Standing (λ k. entry (p .place) (k * 256 + p .initial)) (p .machines) row
-      → RunsEvents pre post (p .machines) (p .events) row es a → a ≡ Services.run s es
-  unfolding Services.run
-  ran es row t answers =
-      let n = told-events (j .past .held .told) in
-      rw (past-12 j)
-      (answers start
-      (record {
-        effective = λ e l. on-a-machine e (omega (arith, n, l));
-        one-each = length-places machines (value .initial) ∙ sym counted;
-        standing = stands row t;
-      })
-      ∙ ap (λ (k : ℕ). Services.ranAnswer (Services.runEvents (moveAt pre post) k (numbers (p .machines)) start es)) n
-      ∙ ap Services.ranAnswer (same-events (moveAt pre post) (move (system value)) (length (value .names)) (numbers (p .machines)) machines start es same))
+  module _ {row : List ℕ} (t : Standing (λ k. entry (p .place) (k * 256 + p .initial)) (p .machines) row) where
+    first : take (p .machines) row ≡ start
+    unfolding Services.padded
+    first =
+        ap (take (p .machines)) (stands row t)
+        ∙ take-at start (replicate (16 - length start) 0) (p .machines) (length-places machines (value .initial) ∙ sym counted)
+
+    pub runnable : Runs pre post (p .machines) (p .events) row
+    runnable =
+        record {
+          few = j .past .held .bounds .machines;
+          rows = j .past .cover .moves .rows;
+          known = j .past .held .bounds .events;
+          on = λ e l. on-a-machine e (omega (arith, told-events (j .past .held .told), l));
+          standing = stands row t ∙ ap Services.padded (sym first);
+        }
+
+    pub ran : (es : List ℕ) {a : Services.RunAnswer} → RunsEvents pre post (p .machines) (p .events) row es a → a ≡ Services.run s es
+    unfolding Services.run
+    ran es answers =
+        rw (past-12 j)
+        (answers
+        ∙ ap (λ (qs : List ℕ). Services.ranAnswer (Services.runEvents (moveAt pre post) (p .events) (numbers (p .machines)) qs es)) first
+        ∙ ap (λ (k : ℕ). Services.ranAnswer (Services.runEvents (moveAt pre post) k (numbers (p .machines)) start es)) (told-events (j .past .held .told))
+        ∙ ap Services.ranAnswer (same-events (moveAt pre post) (move (system value)) (length (value .names)) (numbers (p .machines)) machines start es same))

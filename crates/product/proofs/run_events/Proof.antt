@@ -16,20 +16,18 @@ refused-requires : tie.Need-refused-requires
 refused-requires c κs = search needs
 
 returns : tie.Need-returns
-returns c qs r =
+returns c =
     let searched = c .before .before .«unknown-event» .ensures in
-    c .refused .ensures ∙ ap ranAnswer (sym (runs-unknown _ _ searched (moveAt _ _) (numbers _) qs (c .before .if1 .taken)))
+    c .refused .ensures ∙ ap ranAnswer (sym (runs-unknown _ _ searched (moveAt _ _) (numbers _) _ (c .before .if1 .taken)))
 
 run-from-requires : tie.Need-run-from-requires
 run-from-requires c κs =
-    let start = c .before .before .before .before .before in
-    (start .pre .0, start .pre .2, λ i l. omega (arith, start .pre .1, all-known _ _ (c .before .«unknown-event» .ensures) (c .if1 .left) i l))
+    let runs = c .before .before .before .before .before .pre in
+    let known = all-known _ _ (c .before .«unknown-event» .ensures) (c .if1 .left) in
+    (runs .few, runs .rows, runs .standing, λ i l. (omega (arith, runs .known, known i l), runs .on _ (known i l)))
 
 returns-2 : tie.Need-returns-2
-returns-2 c qs r =
-    let searched = c .before .before .«unknown-event» .ensures in
-    let known = c .before .if1 .left in
-    c .«run-from» .ensures _ qs r (all-known _ _ searched known) ∙ ap ranAnswer (sym (runs-known _ _ searched (moveAt _ _) (numbers _) qs known))
+returns-2 c = c .«run-from» .ensures ∙ ap ranAnswer (sym (runs-known _ _ (c .before .before .«unknown-event» .ensures) (moveAt _ _) (numbers _) _ (c .before .if1 .left)))
 
 pub run-events-spec : {M : Type 1} → statement M
 run-events-spec =

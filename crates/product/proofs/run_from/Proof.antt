@@ -17,7 +17,7 @@ place-bounds-requires : tie.Need-place-bounds-requires Inv-loop μ-loop
 place-bounds-requires c κs = search needs
 
 loop-holds : tie.Need-loop-holds Inv-loop μ-loop
-loop-holds c = run-start
+loop-holds c = run-start (search needs) (c .before .before .before .before .pre .2)
 
 shared-slice-read-wide : tie.Need-shared-slice-read-wide Inv-loop μ-loop
 shared-slice-read-wide c = search needs
@@ -30,14 +30,14 @@ step-requires c κs =
     let b = c .before .before in
     let bounded = b .before .before in
     let start = bounded .before .before .before .before in
-    (start .pre .0, bounded .«place-bounds» .ensures, omega (arith, c .wide .ensures .0, start .pre .2 (b .before .loop .ran) (b .loop-test .taken)), start .pre .1)
+    (start .pre .0, bounded .«place-bounds» .ensures, omega (arith, c .wide .ensures .0, start .pre .3 (b .before .loop .ran) (b .loop-test .taken) .0), start .pre .1)
 
 returns : tie.Need-returns Inv-loop μ-loop
 returns c =
     let stepped = c .before .before in
     let read = stepped .before in
     let turn = read .before .before in
-    run-blocked (search needs) (turn .before .loop .inv) (turn .loop-test .taken) (read .wide .ensures .0) (stepped .step .ensures) (c .if1 .taken)
+    run-blocked (turn .before .loop .inv) (turn .loop-test .taken) (turn .before .before .before .before .before .before .pre .3) (read .wide .ensures .0) (stepped .step .ensures) (c .if1 .taken)
 
 add-ran : tie.Need-add-ran Inv-loop μ-loop
 add-ran c = search needs
@@ -50,10 +50,10 @@ loop-again c =
     let stepped = c .before .before in
     let read = stepped .before in
     let turn = read .before .before in
-    run-more (search needs) (turn .before .loop .inv) (turn .loop-test .taken) (read .wide .ensures .0) (stepped .step .ensures) (c .if1 .left)
+    run-more (turn .before .loop .inv) (turn .loop-test .taken) (turn .before .before .before .before .before .before .pre .3) (read .wide .ensures .0) (stepped .step .ensures) (search needs) (c .if1 .left)
 
 returns-2 : tie.Need-returns-2 Inv-loop μ-loop
-returns-2 c = run-end (search needs) (c .before .loop .inv) (c .loop-test .left)
+returns-2 c = run-end (c .before .loop .inv) (c .loop-test .left)
 
 pub run-from-spec : {M : Type 1} → statement M
 run-from-spec =

@@ -63,7 +63,7 @@ loop-again c =
 returns : tie.Need-returns Inv-loop μ-loop
 returns c =
     let end = c .before in
-    lane-end (end .before .loop .inv) (search needs) (end .loop-test .left) (c .if1 .taken)
+    lane-end (end .before .loop .inv) (search needs) (end .loop-test .left) (search needs) (c .if1 .taken)
 
 blocking-machine-requires : tie.Need-blocking-machine-requires Inv-loop μ-loop
 blocking-machine-requires c κs = search needs

@@ -3,7 +3,7 @@ use native.Mathlib.Omega.{arith}
 use mathlib.Core.Path.{sym}
 use borrow.Author.Needs.{needs}
 use Rattle.stages.proofs.Stages.{fresh, fresh-rows, refused-text, past-text}
-use Rattle.run_service.proofs.Running.{run-refused, ran}
+use Rattle.run_service.proofs.Running.{run-refused, runnable, ran}
 use Rattle.run_service.proofs.run.Statement.{statement}
 use Rattle.run_service.proofs.run.Tie as tie
 
@@ -55,13 +55,13 @@ run-events-requires : tie.Need-run-events-requires
 run-events-requires c κs =
     let past = c .before .before .before .before .before in
     let j = past-text (read past .read-as-far-as-12 .ensures) (past .enum-told .given .1) in
-    (j .past .held .bounds .machines, j .past .held .bounds .events, j .past .cover .moves .rows)
+    runnable j (c .before .before .places-of .ensures)
 
 returns-2 : tie.Need-returns-2
 returns-2 c =
     let past = c .before .before .before .before .before .before in
     let j = past-text (read past .read-as-far-as-12 .ensures) (past .enum-told .given .1) in
-    ran j _ _ (c .before .before .before .places-of .ensures) (c .run-events .ensures)
+    ran j (c .before .before .before .places-of .ensures) _ (c .run-events .ensures)
 
 pub run-spec : {M : Type 1} → statement M
 run-spec =
