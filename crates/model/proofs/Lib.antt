@@ -5,7 +5,8 @@ pub mod Laws
 pub mod ListLaws
 pub mod Positions
 pub mod Counting
--- the theory: one machine (Bounds to Moves), machines together (Simulate), reaching, what passing leaves, thinning, running
+-- the theory: machines by their moves alone (Together), one machine (Bounds to Moves), machines and transition system together (Simulate), reaching, what
+-- passing leaves, thinning, running
 pub mod Together
 pub mod Bounds
 pub mod Places
