@@ -3,7 +3,7 @@ use Prim.Native.Nat.{ℕ, _<_, _≤_}
 use native.Mathlib.Omega.{arith}
 use mathlib.Core.Path.{_≡_, sym, _∙_}
 use mathlib.Core.List.{List}
-use mathlib.Core.Option.{none, some, Option·some-injective, Option·none-ne-some, Option·some-ne-none}
+use mathlib.Core.Option.{none, some, Option·some-injective, Option·some-ne-none}
 use mathlib.Core.Bool.{Bool, not}
 use lib.Dec.{T}
 use lib.ListN.{length, take}
@@ -13,8 +13,7 @@ use Rattle.model.specs.Product.{fire, fireAll, productStep, blocker}
 use Rattle.model.proofs.Laws.{not-not, isSome-none, Lowest, found, absent, lowest-view}
 use Rattle.model.proofs.Positions.{at-below, length-numbers, number-at, at-number}
 use Rattle.model.proofs.Together.{step-effective, all-fire, Halts, halts-blocker, none-blocks}
-use Rattle.reader.specs.Told.{entry, below}
-use Rattle.reader.proofs.Searches.{below-in, below-out}
+use Rattle.reader.specs.Told.{entry}
 use Rattle.regions.specs.Moves.{moveAt}
 use Rattle.product.specs.declared.Stepped.{Stepped}
 use Rattle.product.specs.Stepping.{Steps, IsPadded, IsOn}
@@ -41,44 +40,34 @@ module _ (pre post : List ℕ) (machines : ℕ) (places : List ℕ) (e : ℕ) (r
       let l : k < machines = omega (arith, at-below (numbers machines) k m a, length-numbers machines) in
       fires-told k m a ∙ went k l ∙ rw (getD-take machines moved k 0 l))
 
-  -- what a search for the lowest that blocks has found
-  module _ {n : ℕ} (most : n ≤ machines) (search : below machines n ≡ lowest blocks machines) where
-    halts-at : (k : ℕ) → k < machines → T (blocks k) → ((j : ℕ) → j < k → T (not (blocks j))) → Halts (moveAt pre post) e (numbers machines) (take machines places) k
-    halts-at k l t u =
-        let a = number-at machines k l in
-        record {
-          machine = k;
-          numbered = a;
-          stops = fires-told k k a ∙ isSome-none (fire (moveAt pre post) k e (entry places k)) t;
-          lower = λ j m i b. rw (fires-told j m b) (not-not (isSome (fire (moveAt pre post) j e (entry places j))) (u j i));
-        }
+  -- none blocks
+  pub rows-pass : ((k : ℕ) → k < machines → T (isSome (fire (moveAt pre post) k e (entry places k)))) → blocker (moveAt pre post) (numbers machines) (take machines places) e ≡ machines
+  rows-pass pass =
+      none-blocks (moveAt pre post) e (numbers machines) (take machines places) counted
+      (λ k m a. rw (fires-told k m a) (pass k (omega (arith, at-below (numbers machines) k m a, length-numbers machines))))
+      ∙ length-numbers machines
 
-    -- one blocks
-    pub rows-halt : n < machines
-        → (fireAll (moveAt pre post) e (numbers machines) (take machines places) ≡ none) × (blocker (moveAt pre post) (numbers machines) (take machines places) e ≡ n)
-    rows-halt h = go (lowest-view blocks machines)
-      where
-        here : some n ≡ lowest blocks machines
-        here = sym (below-in machines n h) ∙ search
+  halts-at : (k : ℕ) → k < machines → T (blocks k) → ((j : ℕ) → j < k → T (not (blocks j))) → Halts (moveAt pre post) e (numbers machines) (take machines places) k
+  halts-at k l t u =
+      let a = number-at machines k l in
+      record {
+        machine = k;
+        numbered = a;
+        stops = fires-told k k a ∙ isSome-none (fire (moveAt pre post) k e (entry places k)) t;
+        lower = λ j m i b. rw (fires-told j m b) (not-not (isSome (fire (moveAt pre post) j e (entry places j))) (u j i));
+      }
 
-        go : Lowest blocks machines
-            → (fireAll (moveAt pre post) e (numbers machines) (take machines places) ≡ none) × (blocker (moveAt pre post) (numbers machines) (take machines places) e ≡ n)
-        go (absent q u) = absurd (Option·some-ne-none n (here ∙ q))
-        go (found k q b t u) =
-            let o = halts-blocker (moveAt pre post) e (numbers machines) (take machines places) k counted (halts-at k b t u) in
-            (o .0, o .1 ∙ sym (Option·some-injective n k (here ∙ q)))
-
-    -- none does
-    pub rows-pass : machines ≤ n → blocker (moveAt pre post) (numbers machines) (take machines places) e ≡ n
-    rows-pass h = go (lowest-view blocks machines)
-      where
-        go : Lowest blocks machines → blocker (moveAt pre post) (numbers machines) (take machines places) e ≡ n
-        go (found k q b t u) = absurd (Option·none-ne-some k (sym (below-out machines n h) ∙ search ∙ q))
-        go (absent q u) =
-            none-blocks (moveAt pre post) e (numbers machines) (take machines places) counted
-            (λ k m a. rw (fires-told k m a)
-            (not-not (isSome (fire (moveAt pre post) k e (entry places k))) (u k (omega (arith, at-below (numbers machines) k m a, length-numbers machines)))))
-            ∙ length-numbers machines ∙ omega (arith, h, most)
+  -- one blocks: the lowest
+  pub rows-halt : (n : ℕ) → some n ≡ lowest blocks machines
+      → (fireAll (moveAt pre post) e (numbers machines) (take machines places) ≡ none) × (blocker (moveAt pre post) (numbers machines) (take machines places) e ≡ n)
+  rows-halt n here = go (lowest-view blocks machines)
+    where
+      go : Lowest blocks machines
+          → (fireAll (moveAt pre post) e (numbers machines) (take machines places) ≡ none) × (blocker (moveAt pre post) (numbers machines) (take machines places) e ≡ n)
+      go (absent q u) = absurd (Option·some-ne-none n (here ∙ q))
+      go (found k q b t u) =
+          let o = halts-blocker (moveAt pre post) e (numbers machines) (take machines places) k counted (halts-at k b t u) in
+          (o .0, o .1 ∙ sym (Option·some-injective n k (here ∙ q)))
 
 -- of an event that is on one of the machines
 module _ {pre post : List ℕ} {machines : ℕ} {places : List ℕ} {e : ℕ} {s : Stepped} (on : IsOn pre post machines e) (steps : Steps pre post machines places e s) where

@@ -15,7 +15,7 @@ use Rattle.model.specs.Lists.{isSome, lowest, numbers}
 use Rattle.model.specs.Product.{moveFrom, fire, fireAll, blocker}
 use Rattle.model.proofs.Laws.{T-true, and-l, and-r, and-not, contra, order, not-le, lowest-none}
 use Rattle.reader.specs.Told.{entry, below}
-use Rattle.reader.proofs.Searches.{below-out, lowest-same, searched}
+use Rattle.reader.proofs.Searches.{below-in, below-out, lowest-same, searched}
 use Rattle.regions.specs.Moves.{moveAt}
 use Rattle.product.specs.Stepping.{PlaceBounds, blocksAt, Steps}
 use Rattle.product.proofs.Firing.{rows-go, rows-halt, rows-pass}
@@ -165,10 +165,7 @@ module _ {pre post : List ℕ} {machines : ℕ} {places : List ℕ} {e : ℕ} wh
     lane-end s t =
         record {
           most = omega arith;
-          blocker =
-              sym (rows-pass pre post machines places e (omega (arith, s)) (omega arith)
-              (searched (λ k. not (isSome (fire (moveAt pre post) k e (entry places k)))) machines machines (omega arith) (λ k i. rw (went k i) tt) (λ i. absurd (omega arith)))
-              (omega arith));
+          blocker = sym (rows-pass pre post machines places e (omega (arith, s)) (λ k i. rw (went k i) tt));
           halts = λ i. absurd (omega arith);
           goes = λ i. rows-go pre post machines places e (omega (arith, s)) moved (omega (arith, z .size)) went;
           size = z .size;
@@ -201,5 +198,6 @@ module _ {pre post : List ℕ} {machines : ℕ} {places : List ℕ} {e : ℕ} wh
 
         halted : (fireAll (moveAt pre post) e (numbers machines) (take machines places) ≡ none) × (blocker (moveAt pre post) (numbers machines) (take machines places) e ≡ r)
         halted =
-            rows-halt pre post machines places e (omega (arith, s)) (f .0)
-            (f .1 ∙ lowest-same (blocksAt pre places e) (λ k. not (isSome (fire (moveAt pre post) k e (entry places k)))) machines (λ k i. blocks-fires pre post places e k)) stops
+            rows-halt pre post machines places e (omega (arith, s)) r
+            (sym (below-in machines r stops) ∙ f .1
+            ∙ lowest-same (blocksAt pre places e) (λ k. not (isSome (fire (moveAt pre post) k e (entry places k)))) machines (λ k i. blocks-fires pre post places e k))
