@@ -10,8 +10,8 @@ use Rattle.model.specs.Cases.{tabled}
 use Rattle.model.specs.Refusal.{Checked, refused, passed}
 use Rattle.model.specs.Sheet.{sheet}
 use Rattle.model.specs.Services.{asFarAs12, lend, check}
-use Rattle.reader.specs.declared.Tables.{Tables}
-use Rattle.reader.proofs.Bounds.{limits}
+use Rattle.rows.specs.declared.Tables.{Tables}
+use Rattle.rows.proofs.Bounds.{limits}
 use Rattle.sheet.specs.Written.{rowSheet}
 use Rattle.sheet.proofs.Told.{told-sheet, lent}
 use Rattle.stages.specs.Stages.{Judged}

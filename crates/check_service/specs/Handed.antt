@@ -4,8 +4,8 @@ use mathlib.Core.Path.{_≡_}
 use mathlib.Core.List.{List}
 use Rattle.model.specs.Refusal.{passed}
 use Rattle.model.specs.Services.{lend}
-use Rattle.reader.specs.declared.Counts.{Counts}
-use Rattle.reader.specs.Tables.{tablesIn}
+use Rattle.rows.specs.declared.Counts.{Counts}
+use Rattle.rows.specs.Tables.{tablesIn}
 use Rattle.sheet.specs.Written.{rowSheet}
 use Rattle.answers.specs.declared.Answer.{Answer}
 use Rattle.answers.specs.Answers.{answered}

@@ -18,12 +18,12 @@ use Rattle.model.specs.Machine.{Machine, Decomposition, placeOf, inPre, ready, 
 use Rattle.model.proofs.Laws.{order}
 use Rattle.model.proofs.ListLaws.{every-append}
 use Rattle.model.proofs.Positions.{at-below, below-at, at-value}
-use Rattle.reader.specs.declared.Counts.{Counts}
-use Rattle.reader.specs.declared.Verdict.{Verdict}
-use Rattle.reader.specs.Tables.{verdictRefusal}
-use Rattle.reader.specs.Told.{entry, below}
-use Rattle.reader.proofs.Searches.{below-in, below-out, lowest-same}
-use Rattle.reader.proofs.Fronts.{exists-snoc}
+use Rattle.rows.specs.declared.Counts.{Counts}
+use Rattle.rows.specs.declared.Verdict.{Verdict}
+use Rattle.rows.specs.Tables.{verdictRefusal}
+use Rattle.rows.specs.Told.{entry, below}
+use Rattle.rows.proofs.Searches.{below-in, below-out, lowest-same}
+use Rattle.rows.proofs.Fronts.{exists-snoc}
 use Rattle.regions.specs.Moves.{moveAt, MovesTold}
 use Rattle.closure.specs.Covers.{PlaceSets, onMachine, onSome, meets, commonTo, openIn, openRefusal, CoverTold, SetsTold, CoverJudged}
 use Rattle.closure.proofs.Selection.{effective-each, closure-same}

@@ -9,8 +9,8 @@ use mathlib.Core.List.{List}
 use lib.Dec.{ltb}
 use Rattle.model.specs.Lists.{lowest}
 use Rattle.model.proofs.Laws.{below-suc}
-use Rattle.reader.specs.Told.{entry, below}
-use Rattle.reader.proofs.Searches.{Upto, searched}
+use Rattle.rows.specs.Told.{entry, below}
+use Rattle.rows.proofs.Searches.{Upto, searched}
 use Rattle.closure.specs.Covers.{onMachine, onSome}
 
 -- the event is on the machine if its entry is a place

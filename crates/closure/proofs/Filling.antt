@@ -13,7 +13,7 @@ use lib.ListN.{length, replicate, length-replicate}
 use Rattle.model.proofs.Laws.{below-suc, order}
 use Rattle.state_set.specs.Rows.{memberAt, Inserted}
 use Rattle.state_set.proofs.Rows.{empty-row}
-use Rattle.reader.specs.Told.{entry}
+use Rattle.rows.specs.Told.{entry}
 use Rattle.closure.specs.Covers.{PlaceSets}
 
 -- machine m has state i, of the first x, in place q

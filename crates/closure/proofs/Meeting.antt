@@ -12,8 +12,8 @@ use Rattle.state_set.specs.declared.StateSet.{StateSet}
 use Rattle.state_set.specs.Member.{member}
 use Rattle.state_set.specs.Rows.{setAt, memberAt}
 use Rattle.state_set.proofs.Sets.{fullSet, full-member}
-use Rattle.reader.specs.Told.{entry}
-use Rattle.reader.proofs.Searches.{lowest-same}
+use Rattle.rows.specs.Told.{entry}
+use Rattle.rows.proofs.Searches.{lowest-same}
 use Rattle.closure.specs.Covers.{onMachine, meets, commonTo, openIn}
 
 -- ---- one machine

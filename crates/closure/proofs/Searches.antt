@@ -12,7 +12,7 @@ use Rattle.model.proofs.Laws.{below-suc, order, Lowest, found, absent, lowest-v
 use Rattle.state_set.specs.Member.{stateFound}
 use Rattle.state_set.specs.declared.Found.{Found}
 use Rattle.state_set.specs.declared.Found.the-variants.{Nothing, State}
-use Rattle.reader.proofs.Searches.{Upto, upto-more, below-in, searched, lowest-same}
+use Rattle.rows.proofs.Searches.{Upto, upto-more, below-in, searched, lowest-same}
 use Rattle.closure.specs.Covers.{openRefusal}
 
 -- a search over more numbers, of which the further ones do not pass

@@ -11,10 +11,10 @@ use Rattle.model.specs.Refusal.{Refusal, refuse}
 use Rattle.model.specs.TransitionSystem.{TransitionSystem}
 use Rattle.model.specs.Machine.{Machine, Decomposition, placeOf, coverRefusal}
 use Rattle.state_set.specs.Rows.{memberAt}
-use Rattle.reader.specs.declared.Counts.{Counts}
-use Rattle.reader.specs.declared.Verdict.{Verdict}
-use Rattle.reader.specs.Tables.{verdictRefusal}
-use Rattle.reader.specs.Told.{entry}
+use Rattle.rows.specs.declared.Counts.{Counts}
+use Rattle.rows.specs.declared.Verdict.{Verdict}
+use Rattle.rows.specs.Tables.{verdictRefusal}
+use Rattle.rows.specs.Told.{entry}
 use Rattle.transition_system.specs.Sets.{Excitations}
 use Rattle.regions.specs.Moves.{MovesTold}
 

@@ -12,17 +12,16 @@ use Rattle.model.specs.Bytes.{sameName}
 use Rattle.model.specs.Text.{Input, eventNumber}
 use Rattle.model.specs.Services.{asFarAs7}
 use Rattle.model.proofs.Verdicts.{refused-passed, same-passed}
-use Rattle.reader.specs.declared.Tables.{Tables}
-use Rattle.reader.specs.declared.Verdict.{Verdict}
-use Rattle.reader.specs.declared.Verdict.the-variants.{Refused}
-use Rattle.reader.specs.Tables.{verdictRefusal}
-use Rattle.reader.specs.Bounded.{NamesInside}
-use Rattle.reader.proofs.Searches.{Upto, index-is}
-use Rattle.sheet.specs.Written.{namesIn}
-use Rattle.sheet.proofs.Moving.{nameIn, cut, cut-name, name-at, length-names}
-use Rattle.sheet.proofs.Told.{told-names}
+use Rattle.rows.specs.declared.Tables.{Tables}
+use Rattle.rows.specs.declared.Verdict.{Verdict}
+use Rattle.rows.specs.declared.Verdict.the-variants.{Refused}
+use Rattle.rows.specs.Tables.{verdictRefusal}
+use Rattle.rows.specs.Bounded.{NamesInside}
+use Rattle.rows.proofs.Searches.{Upto, index-is}
+use Rattle.rows.specs.Names.{namesIn}
+use Rattle.rows.proofs.Names.{nameIn, cut, cut-name, name-at, length-names, told-names}
 use Rattle.stages.specs.Stages.{Held}
-use Rattle.stages.proofs.Checking.{refused-as}
+use Rattle.rows.proofs.Verdicts.{refused-as}
 use Rattle.command_line.specs.Names.{Declares}
 
 -- ---- the event that a word names
@@ -70,7 +69,7 @@ module _ {s : List ℕ} where
     same-value v q = same-passed (h .value) v (sym (h .passes) ∙ q)
 
     pub declares-held : length (p .«name_at») ≡ 64 → length (p .«name_len») ≡ 64
-        → Declares s (record { events = p .events; «name_at» = p .«name_at»; «name_len» = p .«name_len»; machines = p .machines })
+        → Declares s (record { events = p .counts .events; «name_at» = p .«name_at»; «name_len» = p .«name_len»; machines = p .counts .machines })
     declares-held a b =
         record {
           most = h .bounds .events;

@@ -9,8 +9,8 @@ use lib.ListN.{length}
 use Rattle.model.specs.Lists.{index}
 use Rattle.model.specs.Bytes.{Name, decimal, sameName}
 use Rattle.model.specs.Text.{eventNumber}
-use Rattle.sheet.specs.Written.{namesIn}
-use Rattle.sheet.proofs.Moving.{length-names}
+use Rattle.rows.specs.Names.{namesIn}
+use Rattle.rows.proofs.Names.{length-names}
 use Rattle.command_line.specs.declared.Said.{Said}
 use Rattle.command_line.specs.declared.Said.the-variants.{Neither, Number}
 use Rattle.command_line.specs.Words.{isNumeral, isNameWord, said, numberSaid, eventSaid}

@@ -7,8 +7,8 @@ use Rattle.model.specs.Refusal.{passed}
 use Rattle.model.specs.Bytes.{Name}
 use Rattle.model.specs.Text.{Input}
 use Rattle.model.specs.Services.{asFarAs7}
-use Rattle.reader.specs.Bounded.{NamesInside}
-use Rattle.sheet.specs.Written.{namesIn}
+use Rattle.rows.specs.Bounded.{NamesInside}
+use Rattle.rows.specs.Names.{namesIn}
 use Rattle.command_line.specs.declared.Declared.{Declared}
 
 abbrev pub declaredNames : List ℕ → Declared → List Name

@@ -5,8 +5,8 @@ ghost use Prim.Native.Nat.{ℕ, _≤_, _<_, min};
 ghost use lib.ListN.{length};
 ghost use Rattle.model.specs.Bytes.{sameName, decimal};
 ghost use Rattle.model.specs.Text.{eventNumber};
-ghost use Rattle.reader.specs.Bounded.{NamesInside};
-ghost use Rattle.sheet.specs.Written.{namesIn};
+ghost use Rattle.rows.specs.Bounded.{NamesInside};
+ghost use Rattle.rows.specs.Names.{namesIn};
 ghost use Rattle.command_line.specs.Words.{serviceSaid, isNumeral, isNameWord, said, numberSaid, eventSaid};
 ghost use Rattle.command_line.specs.Names.{Declares, declaredNames};
 use lexer::NameWord;
@@ -16,8 +16,8 @@ use lexer::is_digit;
 use lexer::read_literal;
 use lexer::read_name;
 use model::MAX_EVENTS;
-use reader::Verdict;
-use stages::read_as_far_as_7;
+use rows::Verdict;
+use stages::check_plan;
 
 pub enum Service {
     Check,
@@ -180,7 +180,7 @@ pub struct Declared {
 pub fn read_names(text: &[u8]) -> Declared
     ensures { λ r. ⌜ Declares (now (text .entry)) r ⌝ }
 {
-    let reading = read_as_far_as_7(text);
+    let reading = check_plan(text);
     let verdict = reading.verdict;
     if let Verdict::Refused(_) = verdict {
         return Declared {
@@ -194,10 +194,10 @@ pub fn read_names(text: &[u8]) -> Declared
     let name_at = tables.name_at;
     let name_len = tables.name_len;
     Declared {
-        events: tables.events,
+        events: tables.counts.events,
         name_at,
         name_len,
-        machines: tables.machines,
+        machines: tables.counts.machines,
     }
 }
 

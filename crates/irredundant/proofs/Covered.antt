@@ -14,7 +14,7 @@ use Rattle.state_set.specs.declared.Found.{Found}
 use Rattle.state_set.specs.declared.Found.the-variants.{Nothing, State}
 use Rattle.state_set.specs.Member.{member, stateFound}
 use Rattle.state_set.specs.Rows.{setAt, memberAt}
-use Rattle.reader.proofs.Searches.{Upto, lowest-same}
+use Rattle.rows.proofs.Searches.{Upto, lowest-same}
 use Rattle.closure.specs.Covers.{onSome}
 use Rattle.irredundant.specs.Kept.{noneBelow, coveredWithout}
 

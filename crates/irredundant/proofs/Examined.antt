@@ -17,10 +17,10 @@ use Rattle.model.proofs.Kept.{kept-length, kept-examined, select-count}
 use Rattle.model.proofs.Positions.{below-at, at-value}
 use Rattle.state_set.proofs.Sets.{fullWord}
 use Rattle.model.specs.declared.Refusal as D
-use Rattle.reader.specs.declared.Counts.{Counts}
-use Rattle.reader.specs.declared.Verdict.{Verdict}
-use Rattle.reader.specs.declared.Verdict.the-variants.{Refused, Passed}
-use Rattle.reader.specs.Tables.{verdictRefusal}
+use Rattle.rows.specs.declared.Counts.{Counts}
+use Rattle.rows.specs.declared.Verdict.{Verdict}
+use Rattle.rows.specs.declared.Verdict.the-variants.{Refused, Passed}
+use Rattle.rows.specs.Tables.{verdictRefusal}
 use Rattle.closure.specs.Covers.{PlaceSets, SetsTold, CoverJudged}
 use Rattle.closure.proofs.Cover.{sets-told}
 use Rattle.irredundant.specs.declared.Kept.{Kept}

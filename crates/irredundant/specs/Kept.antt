@@ -12,7 +12,7 @@ use Rattle.model.specs.Cases.{tabled}
 use Rattle.model.specs.Machine.{Decomposition, coverRefusal, keptMarks}
 use Rattle.state_set.specs.Rows.{memberAt}
 use Rattle.closure.specs.Covers.{onMachine, onSome, meets, commonTo, CoverTold, SetsTold}
-use Rattle.reader.specs.declared.Counts.{Counts}
+use Rattle.rows.specs.declared.Counts.{Counts}
 use Rattle.irredundant.specs.declared.Kept.{Kept}
 use Rattle.irredundant.specs.declared.Reduction.{Reduction}
 use Rattle.irredundant.specs.declared.Reduction.the-variants.{Refused, To}

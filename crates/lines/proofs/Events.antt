@@ -15,8 +15,7 @@ use Rattle.lexer.specs.Words.{high, low}
 use Rattle.lexer.proofs.Answers.{GotName}
 use Rattle.lexer.proofs.Loops.{Items, items-none, items-more, items-end}
 use Rattle.lexer.proofs.Moves.{moves-spaced-name, spaced-name-step}
-use Rattle.lines.specs.Rows.{spots}
-use Rattle.lines.specs.Lines.{namesFrom, EventRows, eventRows, FullRows, withNames, noEvents, asEvents, StoresNames}
+use Rattle.lines.specs.Lines.{spots, namesFrom, EventRows, eventRows, FullRows, withNames, noEvents, asEvents, StoresNames}
 use Rattle.lines.specs.Marking.{asNames}
 use Rattle.lines.specs.declared.EventsAt.{EventsAt}
 use Rattle.lines.specs.declared.Names.{Names}

@@ -13,10 +13,10 @@ use Rattle.model.specs.Lists.{every, exists, index, elem, count, lowest}
 use Rattle.model.specs.Machine.{Place, placeIn}
 use Rattle.model.proofs.Laws.{dec, order, T-true, T-false, and-l, and-r, Lowest, found, absent, lowest-view}
 use Rattle.model.proofs.ListLaws.{exists-append}
-use Rattle.lines.specs.Rows.{orNoState, placeMark, placeRow}
+use Rattle.rows.specs.Rows.{orNoState, placeMark, placeRow}
 use Rattle.lines.specs.Lines.{allBelow, hasRow, duplicateMark}
 use Rattle.lines.specs.Marking.{Marking, marked, markedAll, markedPlaces, upTo64}
-use Rattle.lines.proofs.Rows.{length-placeRow, getD-placeRow}
+use Rattle.rows.proofs.Rows.{length-placeRow, getD-placeRow}
 
 -- two numbers are one or not
 eqb-case : {C : Type 0} (x y : ℕ) → (y ≡ x → eqb y x ≡ true → C) → ((y ≡ x → ⊥) → eqb y x ≡ false → C) → C

@@ -16,7 +16,7 @@ use Rattle.lexer.specs.declared.Word.{Word}
 use Rattle.lexer.specs.declared.Word.the-variants.{Missing, Found}
 use Rattle.lexer.specs.Words.{high, low}
 use Rattle.lexer.proofs.Moves.{spaced-name-sound}
-use Rattle.lines.specs.Rows.{placeRow}
+use Rattle.rows.specs.Rows.{placeRow}
 use Rattle.lines.specs.Lines.{asStates, namesFrom, EventRows, withNames, noEvents, asEvents, StoresNames, asStep, duplicateMark, allBelow, hasRow, withoutRow, noMachine, machineRow, asMachine}
 use Rattle.lines.specs.declared.EventsAt.{EventsAt}
 use Rattle.lines.specs.declared.StepWords.{StepWords}

@@ -1,7 +1,5 @@
--- The laws behind the lines. `Rows` and `Found` are for the crates above.
+-- The laws behind the lines. `Found` is for the crates above.
 
--- rows: what is stored where
-pub mod Rows
 -- the names of an events line, the words of a step line
 pub mod Events
 pub mod Steps

@@ -1,4 +1,3 @@
--- `Rows` and `Lines`: what the lines answer. `Marking`: what the inner functions promise.
-pub mod Rows
+-- `Lines`: what the lines answer. `Marking`: what the inner functions promise.
 pub mod Lines
 pub mod Marking

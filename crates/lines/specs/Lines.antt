@@ -2,7 +2,7 @@
 use Prim.Native.Nat.{ℕ, _+_}
 use mathlib.Core.Path.{_≡_}
 use mathlib.Core.Bool.{Bool, true, false, cond, _&&_}
-use mathlib.Core.List.{List, map, flatten}
+use mathlib.Core.List.{List, [], _∷_, map, flatten}
 use lib.Dec.{leb, ltb, eqb}
 use lib.ListN.{length, replicate}
 use lib.Seq.{sets}
@@ -18,7 +18,7 @@ use Rattle.lines.specs.declared.EventsAt.{EventsAt}
 use Rattle.lines.specs.declared.StepLine.{StepLine}
 use Rattle.lines.specs.declared.StepLine.the-variants as S
 use Rattle.lines.specs.declared.MachineLine.{MachineLine}
-use Rattle.lines.specs.Rows.{spots, placeRow, orNoState}
+use Rattle.rows.specs.Rows.{placeRow, orNoState}
 
 unfoldable pub asStates : Parsed Line → Word
 asStates fail = Missing
@@ -26,6 +26,11 @@ asStates (got (states n) next) = Found n next
 asStates (got (events es) next) = Missing
 asStates (got (step a e b) next) = Missing
 asStates (got (machine ps) next) = Missing
+
+-- the position of each name of a list that begins at a position: each stands after a space
+unfoldable pub spots : ℕ → List Name → List ℕ
+spots at [] = []
+spots at (e ∷ es) = (at + 1) ∷ spots (at + 1 + length e) es
 
 -- the position after "(events" at a position: the names begin there
 unfoldable pub namesFrom : ℕ → ℕ

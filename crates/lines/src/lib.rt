@@ -15,12 +15,8 @@ use lexer::read_spaced_figure;
 use lexer::read_spaced_name;
 use model::MAX_EVENTS;
 use model::MAX_PLACES;
-
-// The mark of a state that is in no place.
-pub const UNPLACED: u8 = 255;
-
-// A number that no state has.
-pub const NO_STATE: usize = 256;
+use rows::NO_STATE;
+use rows::UNPLACED;
 
 // An events line: how many names, and the position after it.
 pub struct EventsAt {

@@ -8,8 +8,8 @@ use lib.ListN.{set, length, length-set}
 use lib.Seq.{getD-set-same, getD-set-other}
 use Rattle.model.specs.Cases.{recorded}
 use Rattle.model.proofs.ListLaws.{map-append}
-use Rattle.reader.specs.Told.{entry, firstTransitions}
-use Rattle.reader.proofs.Fronts.{front-more}
+use Rattle.rows.specs.Told.{entry, firstTransitions}
+use Rattle.rows.proofs.Fronts.{front-more}
 use Rattle.listing.specs.Records.{recordAt, firstRecords}
 
 -- rows that agree below 3 * k have the same first k records

@@ -4,7 +4,7 @@ ghost use mathlib.Core.List.{map};
 ghost use Prim.Native.Nat.{_<_, _≤_, _+_, _*_};
 ghost use lib.ListN.{length};
 ghost use Rattle.model.specs.Cases.{recorded};
-ghost use Rattle.reader.specs.Told.{firstTransitions};
+ghost use Rattle.rows.specs.Told.{firstTransitions};
 ghost use Rattle.listing.specs.Records.{recordAt, firstRecords, filled};
 use model::Transition;
 

@@ -6,9 +6,9 @@ use mathlib.Core.Option.{Option·some-ne-none, Option·some-injective}
 use denote.Ref.{RefT, now, ptr}
 use Rattle.model.specs.Services.{Part}
 use Rattle.model.proofs.Cases.{tabled-injective}
-use Rattle.reader.specs.declared.Verdict.{Verdict}
-use Rattle.reader.specs.declared.Verdict.the-variants as C
-use Rattle.reader.specs.Tables.{verdictRefusal}
+use Rattle.rows.specs.declared.Verdict.{Verdict}
+use Rattle.rows.specs.declared.Verdict.the-variants as C
+use Rattle.rows.specs.Tables.{verdictRefusal}
 use Rattle.naming.specs.Parts.{PartOf}
 
 pub verdict-injective : (a b : Verdict) → verdictRefusal a ≡ verdictRefusal b → a ≡ b

@@ -11,15 +11,15 @@ use Rattle.model.specs.Cases.{tabled}
 use Rattle.model.specs.Refusal.{refused, passed, refusalOf}
 use Rattle.model.specs.Text.{Input}
 use Rattle.model.specs.Services.{asFarAs7, name, handedBack, nameRefusal}
-use Rattle.reader.specs.declared.Verdict.{Verdict}
-use Rattle.reader.specs.declared.Verdict.the-variants.{Refused, Passed}
-use Rattle.reader.specs.declared.Tables.{Tables}
-use Rattle.reader.specs.Tables.{verdictRefusal}
-use Rattle.reader.specs.Told.{entry, nameOf}
-use Rattle.reader.proofs.Telling.{told-events}
-use Rattle.sheet.proofs.Moving.{name-inside, length-name}
+use Rattle.rows.specs.declared.Verdict.{Verdict}
+use Rattle.rows.specs.declared.Verdict.the-variants.{Refused, Passed}
+use Rattle.rows.specs.declared.Tables.{Tables}
+use Rattle.rows.specs.Tables.{verdictRefusal}
+use Rattle.rows.specs.Told.{entry, nameOf}
+use Rattle.rows.proofs.Telling.{told-events}
+use Rattle.rows.proofs.Names.{name-inside, length-name}
 use Rattle.stages.specs.Stages.{Held}
-use Rattle.stages.proofs.Checking.{refused-as}
+use Rattle.rows.proofs.Verdicts.{refused-as}
 use Rattle.naming.specs.declared.NamePart.{NamePart}
 use Rattle.naming.specs.Parts.{NoPart, Named}
 
@@ -48,16 +48,16 @@ module _ {s : List ℕ} {p : Tables} (h : Held (asFarAs7 s) s p) (e : ℕ) where
   value = h .value
 
   -- the rows count the value's events
-  counted : p .events ≡ length (value .names)
+  counted : p .counts .events ≡ length (value .names)
   counted = told-events (h .told)
 
   -- the event is not declared
-  pub unknown : {r : NamePart} → p .events ≤ e → NoPart (UnknownEvent 0) r → Named s e r
+  pub unknown : {r : NamePart} → p .counts .events ≤ e → NoPart (UnknownEvent 0) r → Named s e r
   unfolding name tabled
   unknown l n = names-none s e (UnknownEvent 0) (rw (h .passes, le-ltb e (length (value .names)) (rw counted at l))) n
 
   -- the event is declared
-  module _ (l : e < p .events) where
+  module _ (l : e < p .counts .events) where
     abbrev from : ℕ
     from = entry (p .«name_at») e
 
@@ -75,7 +75,7 @@ module _ {s : List ℕ} {p : Tables} (h : Held (asFarAs7 s) s p) (e : ℕ) where
     -- the row has its length
     name-size : size ≡ length (getD (value .names) e [])
     unfolding nameOf
-    name-size = sym (length-name s (p .«name_at») (p .«name_len») (p .events) e (h .names) l) ∙ ap length (h .told .name e known)
+    name-size = sym (length-name s (p .«name_at») (p .«name_len») (p .counts .events) e (h .names) l) ∙ ap length (h .told .name e known)
 
     -- the model's answer
     name-is : name s e ≡ passed (record { from = from; size = size })

@@ -8,7 +8,7 @@ use lib.ListN.{length, take, drop}
 use Rattle.model.specs.declared.Refusal as D
 use Rattle.model.specs.Cases.{tabled}
 use Rattle.model.specs.Services.{Part, name, handedBack, nameRefusal}
-use Rattle.reader.specs.Tables.{verdictRefusal}
+use Rattle.rows.specs.Tables.{verdictRefusal}
 use Rattle.naming.specs.declared.NamePart.{NamePart}
 
 -- r has this refusal, and the empty part at the text's beginning

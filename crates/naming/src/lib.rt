@@ -1,16 +1,16 @@
 // The service Name: where an event's name stands in the text, and the name as the caller's own bytes.
 ghost use mathlib.Core.Path.{_≡_};
 ghost use Rattle.model.specs.Services as Services;
-ghost use Rattle.reader.specs.Tables.{verdictRefusal};
+ghost use Rattle.rows.specs.Tables.{verdictRefusal};
 ghost use Rattle.naming.specs.Parts.{NoPart, Named, PartOf};
-use lines::NO_STATE;
-use lines::UNPLACED;
 use model::MAX_EVENTS;
 use model::MAX_MACHINES;
 use model::MAX_TRANSITIONS;
 use model::Refusal;
-use reader::Verdict;
-use stages::read_rows_as_far_as_7;
+use rows::NO_STATE;
+use rows::UNPLACED;
+use rows::Verdict;
+use stages::read_as_far_as_7;
 
 // Where a name stands in the text, or the refusal and the empty part at the text's beginning.
 pub struct NamePart {
@@ -41,7 +41,7 @@ pub fn find_name(text: &[u8], event: usize) -> NamePart
     let mut sizes = [0usize; MAX_MACHINES];
     let mut duplicate = [NO_STATE; MAX_MACHINES];
     let mut place = [UNPLACED; 4096];
-    let read = read_rows_as_far_as_7(
+    let read = read_as_far_as_7(
         text,
         &mut name_at,
         &mut name_len,

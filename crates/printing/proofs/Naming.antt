@@ -16,13 +16,12 @@ use Rattle.model.proofs.Laws.{order}
 use Rattle.model.proofs.Order.{Verdict, turned-down, let-through}
 use Rattle.model.proofs.Positions.{getD-mem}
 use Rattle.model.proofs.Verdicts.{verdict7}
-use Rattle.reader.specs.declared.Verdict.the-variants.{Refused, Passed}
+use Rattle.rows.specs.declared.Verdict.the-variants.{Refused, Passed}
 use Rattle.writers.specs.Written.{Writes}
-use Rattle.stages.proofs.Checking.{was-passed, refused-as}
+use Rattle.rows.proofs.Verdicts.{was-passed, refused-as, lets-pass}
 use Rattle.naming.specs.declared.NamePart.{NamePart}
 use Rattle.naming.specs.Parts.{Named}
 use Rattle.printing.specs.Shown.{Shows}
-use Rattle.checker.proofs.Verdicts.{lets-pass}
 use Rattle.printing.proofs.Showing.{shows-written, shows-same}
 
 -- what Name hands back is no longer than a name

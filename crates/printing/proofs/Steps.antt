@@ -13,18 +13,18 @@ use Rattle.model.specs.TransitionSystem.{Transition}
 use Rattle.model.specs.Services.{asFarAs7, writtenRefusal}
 use Rattle.model.specs.Printed.{printedBy, transitionLine, transitionLines, printedSteps}
 use Rattle.model.proofs.ListLaws.{flatMap-append}
-use Rattle.reader.specs.declared.Verdict.{Verdict}
-use Rattle.reader.specs.declared.Verdict.the-variants.{Refused}
-use Rattle.reader.specs.declared.Tables.{Tables}
-use Rattle.reader.specs.Tables.{verdictRefusal}
-use Rattle.reader.specs.Told.{transitionAt, firstTransitions}
-use Rattle.reader.proofs.Fronts.{front-more}
-use Rattle.reader.proofs.Telling.{told-transitions}
+use Rattle.rows.specs.declared.Verdict.{Verdict}
+use Rattle.rows.specs.declared.Verdict.the-variants.{Refused}
+use Rattle.rows.specs.declared.Tables.{Tables}
+use Rattle.rows.specs.Tables.{verdictRefusal}
+use Rattle.rows.specs.Told.{transitionAt, firstTransitions}
+use Rattle.rows.proofs.Fronts.{front-more}
+use Rattle.rows.proofs.Telling.{told-transitions}
 use Rattle.writers.specs.Written.{Writes}
 use Rattle.writers.proofs.Writing.{spaced, writes-none, writes-append, writes-length}
 use Rattle.writers.proofs.Refusals.{numeral-most, numeral-three}
 use Rattle.stages.specs.Stages.{Held}
-use Rattle.stages.proofs.Checking.{refused-as}
+use Rattle.rows.proofs.Verdicts.{refused-as}
 use Rattle.stages.proofs.Stages.{counted}
 use Rattle.printing.specs.Shown.{Shows}
 use Rattle.printing.proofs.Showing.{shows-written, shows-same, printed-short, printed-all}
@@ -111,17 +111,17 @@ steps-refused s lent {why = why} h e w = let z : asFarAs7 s ≡ refused (tabled 
 -- the text is past 7
 module _ {s : List ℕ} {p : Tables} (h : Held (asFarAs7 s) s p) where
   -- refused by 13
-  pub steps-short : (lent : ℕ) {n : ℕ} {left : List ℕ} → lent < p .transitions → Shows (writtenRefusal (tabled (BufferTooShort (p .transitions)))) n left
+  pub steps-short : (lent : ℕ) {n : ℕ} {left : List ℕ} → lent < p .counts .transitions → Shows (writtenRefusal (tabled (BufferTooShort (p .counts .transitions)))) n left
       → Shows (printedSteps s lent) n left
   unfolding printedSteps
   steps-short lent l w = rw (h .passes) (shows-same (printed-short transitionLines lent (h .value .transitions) (counted h) l) w)
 
   -- the lines that the rows give
   abbrev rowLines : List ℕ
-  rowLines = flatMap transitionLine (firstTransitions (p .source) (p .event) (p .target) (p .transitions))
+  rowLines = flatMap transitionLine (firstTransitions (p .source) (p .event) (p .target) (p .counts .transitions))
 
   abbrev rowWord : List ℕ
-  rowWord = bytes "(steps " ++ (numeral (p .transitions) ++ (bytes ")\n" ++ rowLines))
+  rowWord = bytes "(steps " ++ (numeral (p .counts .transitions) ++ (bytes ")\n" ++ rowLines))
 
   -- they are the value's
   lines-told : rowWord ≡ transitionLines (h .value .transitions)
@@ -135,18 +135,18 @@ module _ {s : List ℕ} {p : Tables} (h : Held (asFarAs7 s) s p) where
       omega (
         arith,
         b .transitions,
-        numeral-most (p .transitions),
-        length-append (bytes "(steps ") (numeral (p .transitions) ++ (bytes ")\n" ++ rowLines)),
-        length-append (numeral (p .transitions)) (bytes ")\n" ++ rowLines),
+        numeral-most (p .counts .transitions),
+        length-append (bytes "(steps ") (numeral (p .counts .transitions) ++ (bytes ")\n" ++ rowLines)),
+        length-append (numeral (p .counts .transitions)) (bytes ")\n" ++ rowLines),
         length-append (bytes ")\n") rowLines,
-        lines-most (p .source) (p .event) (p .target) (p .transitions)
+        lines-most (p .source) (p .event) (p .target) (p .counts .transitions)
             (λ j l. line-most (transitionAt (p .source) (p .event) (p .target) j) (omega (arith, b .source j l, b .states)) (omega (arith, b .event j l, b .events))
             (omega (arith, b .target j l, b .states))),
       )
 
   -- the transitions fit, and their lines follow the first one
-  pub steps-all : (lent : ℕ) {i j k n : ℕ} {out a b c left : List ℕ} → p .transitions ≤ lent → length out ≡ 32768
-      → Writes (bytes "(steps ") 0 out i a → Writes (numeral (p .transitions)) i a j b → Writes (bytes ")\n") j b k c → Writes rowLines k c n left
+  pub steps-all : (lent : ℕ) {i j k n : ℕ} {out a b c left : List ℕ} → p .counts .transitions ≤ lent → length out ≡ 32768
+      → Writes (bytes "(steps ") 0 out i a → Writes (numeral (p .counts .transitions)) i a j b → Writes (bytes ")\n") j b k c → Writes rowLines k c n left
       → Shows (printedSteps s lent) n left
   unfolding printedSteps
   steps-all lent l q w x y z =

@@ -6,22 +6,22 @@ ghost use lib.ListN.{length, take};
 ghost use Rattle.model.specs.Cases.{tabled};
 ghost use Rattle.model.specs.Services.{writtenRefusal};
 ghost use Rattle.model.specs.Printed.{printedCheck, transitionLine, printedSteps, printedName, placesWord, printedRun, joined, printedThin};
-ghost use Rattle.reader.specs.Told.{firstTransitions};
+ghost use Rattle.rows.specs.Told.{firstTransitions};
 ghost use Rattle.writers.specs.Written.{Writes};
 ghost use Rattle.printing.specs.Shown.{Shows, MachinesOf, keptBelow};
 use model::MAX_MACHINES;
 use model::Refusal;
 use naming::find_name;
 use product::Outcome;
-use reader::Verdict;
-use reader::wide;
+use rows::Verdict;
+use rows::wide;
 use splitter::Answer;
 use splitter::Thinned;
 use splitter::check;
 use splitter::numbers;
 use splitter::run;
 use splitter::thin;
-use stages::read_as_far_as_7;
+use stages::check_plan;
 use writers::write_bytes;
 use writers::write_numeral;
 use writers::write_refusal;
@@ -90,13 +90,13 @@ pub fn print_steps(text: &[u8], lent: usize, out: &mut [u8]) -> usize
     requires { ⌜ length (now out) ≡ 32768 ⌝ }
     ensures { λ r. ⌜ Shows (printedSteps (now (text .entry)) lent) r (now (out .exit)) ⌝ }
 {
-    let reading = read_as_far_as_7(text);
+    let reading = check_plan(text);
     let verdict = reading.verdict;
     if let Verdict::Refused(why) = verdict {
         return print_refusal(why, out);
     }
     let tables = reading.tables;
-    let count = tables.transitions;
+    let count = tables.counts.transitions;
     if lent < count {
         return print_refusal(Refusal::BufferTooShort { needed: count }, out);
     }

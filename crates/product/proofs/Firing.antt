@@ -13,7 +13,7 @@ use Rattle.model.specs.Product.{fire, fireAll, productStep, blocker}
 use Rattle.model.proofs.Laws.{not-not, isSome-none, Lowest, found, absent, lowest-view}
 use Rattle.model.proofs.Positions.{at-below, length-numbers, number-at, at-number}
 use Rattle.model.proofs.Together.{step-effective, all-fire, Halts, halts-blocker, none-blocks}
-use Rattle.reader.specs.Told.{entry}
+use Rattle.rows.specs.Told.{entry}
 use Rattle.regions.specs.Moves.{moveAt}
 use Rattle.product.specs.declared.Stepped.{Stepped}
 use Rattle.product.specs.Stepping.{Steps, IsPadded, IsOn}

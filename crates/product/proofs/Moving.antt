@@ -14,8 +14,8 @@ use lib.Seq.{getD-set-same, getD-set-other}
 use Rattle.model.specs.Lists.{isSome, lowest, numbers}
 use Rattle.model.specs.Product.{moveFrom, fire, fireAll, blocker}
 use Rattle.model.proofs.Laws.{T-true, and-l, and-r, and-not, contra, order, not-le, lowest-none}
-use Rattle.reader.specs.Told.{entry, below}
-use Rattle.reader.proofs.Searches.{below-in, below-out, lowest-same, searched}
+use Rattle.rows.specs.Told.{entry, below}
+use Rattle.rows.proofs.Searches.{below-in, below-out, lowest-same, searched}
 use Rattle.regions.specs.Moves.{moveAt}
 use Rattle.product.specs.Stepping.{PlaceBounds, blocksAt, Steps}
 use Rattle.product.proofs.Firing.{rows-go, rows-halt, rows-pass}

@@ -9,7 +9,7 @@ use lib.Seq.{getD-set-same, getD-set-other, ext-getD}
 use Rattle.model.specs.Services.{padded}
 use Rattle.model.proofs.Laws.{order}
 use Rattle.model.proofs.Faith.{getD-padded}
-use Rattle.reader.specs.Told.{entry}
+use Rattle.rows.specs.Told.{entry}
 use Rattle.product.specs.Stepping.{Standing}
 
 -- the first k of the machines stand in their places

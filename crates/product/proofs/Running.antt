@@ -10,7 +10,7 @@ use Rattle.model.specs.Lists.{numbers}
 use Rattle.model.specs.Product.{Ran, oneMore, runFrom}
 use Rattle.model.specs.Services.{whole, blocked, outcomeOf, ranAnswer}
 use Rattle.model.proofs.Together.{run-stops, run-goes}
-use Rattle.reader.specs.Told.{entry}
+use Rattle.rows.specs.Told.{entry}
 use Rattle.regions.specs.Moves.{moveAt}
 use Rattle.product.specs.declared.Outcome.the-variants.{Whole, Blocked}
 use Rattle.product.specs.declared.Stepped.{Stepped}

@@ -18,8 +18,8 @@ use Rattle.model.specs.declared.Refusal.the-variants.{UnknownEvent}
 use Rattle.model.proofs.Laws.{every-elim}
 use Rattle.model.proofs.Positions.{getD-mem}
 use Rattle.model.proofs.Refusing.{events-declared, events-unknown}
-use Rattle.reader.specs.Told.{entry}
-use Rattle.reader.proofs.Searches.{Upto, index-is}
+use Rattle.rows.specs.Told.{entry}
+use Rattle.rows.proofs.Searches.{Upto, index-is}
 
 -- the search stops at an event that is not declared, or at the end
 pub unknown-first : (declared : ℕ) (events : List ℕ) {i : ℕ} → Upto (λ j. entry events j < declared) (length events) i

@@ -10,7 +10,7 @@ use Rattle.model.specs.Lists.{numbers}
 use Rattle.model.specs.Refusal.{passed}
 use Rattle.model.specs.Product.{effective, fireAll, blocker, runFrom}
 use Rattle.model.specs.Services as Services
-use Rattle.reader.specs.Told.{entry}
+use Rattle.rows.specs.Told.{entry}
 use Rattle.regions.specs.Moves.{moveAt, MoveRows}
 use Rattle.product.specs.declared.Stepped.{Stepped}
 

@@ -8,7 +8,7 @@ ghost use Rattle.model.specs.Lists.{index, lowest};
 ghost use Rattle.model.specs.Refusal as Checked;
 ghost use Rattle.model.specs.Cases.{tabled};
 ghost use Rattle.model.specs.Services.{ranAnswer};
-ghost use Rattle.reader.specs.Told.{entry, below};
+ghost use Rattle.rows.specs.Told.{entry, below};
 ghost use Rattle.regions.specs.Moves.{MoveRows};
 ghost use Rattle.product.specs.Answers.{runAnswer};
 ghost use Rattle.product.specs.Stepping.{Standing, PlaceBounds, blocksAt, Steps, IsPadded, EventsOn, RunsFrom, Runs, RunsEvents};
@@ -16,7 +16,7 @@ use model::MAX_MACHINES;
 use model::MAX_PLACES;
 use model::MAX_STATES;
 use model::Refusal;
-use reader::wide;
+use rows::wide;
 
 // What became of a list of events.
 pub enum Outcome {

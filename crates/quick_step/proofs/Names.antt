@@ -12,7 +12,7 @@ use Rattle.model.specs.Bytes.{Name, IsName}
 use Rattle.model.proofs.Positions.{at-getD, getD-mem}
 use Rattle.lexer.specs.Words.{high, low}
 use Rattle.lexer.proofs.Telling.{EachByte, told, name-bytes}
-use Rattle.lines.proofs.Rows.{row-at}
+use Rattle.rows.proofs.Rows.{row-at}
 use Rattle.quick_step.specs.Quick.{NameRows, Same}
 use Rattle.quick_step.proofs.Standing.{both}
 

@@ -9,7 +9,7 @@ use Rattle.model.specs.Reading.{got, part}
 use Rattle.model.specs.Form.{step, stepLine}
 use Rattle.model.proofs.Words.{Spans}
 use Rattle.lexer.specs.Words as Words
-use Rattle.lines.specs.Rows.{row}
+use Rattle.rows.specs.Rows.{row}
 use Rattle.quick_step.specs.declared.Figure.{Figure}
 use Rattle.quick_step.specs.declared.QuickStep.{QuickStep}
 use Rattle.quick_step.specs.declared.QuickStep.the-variants.{Unknown, Found}

@@ -1,28 +1,29 @@
 -- The answer that the code builds from the rows is the text's.
 use Prim.Native.Nat.{ℕ, zero, suc, _+_}
 use native.Mathlib.Omega.{arith}
-use mathlib.Core.Path.{_≡_, refl, ap, sym, _∙_}
+use mathlib.Core.Path.{_≡_, refl, ap, sym, subst, _∙_}
 use mathlib.Core.List.{List, [], _∷_, _++_, map, flatMap}
 use mathlib.Core.Option.{some}
 use lib.ListN.{length, take, length-append, length-map}
-use Rattle.model.specs.Refusal.{Refusal, Checked, refused, passed}
+use Rattle.model.specs.Refusal.{Refusal, Checked, refused, passed, refusalOf}
 use Rattle.model.specs.TransitionSystem.{Transition}
 use Rattle.model.specs.Machine.{Machine, duplicateState}
 use Rattle.model.specs.Bytes.{bytes, Name}
 use Rattle.model.specs.Form.{states, written}
-use Rattle.model.specs.Text.{Input, valueOf, nameAt, system}
+use Rattle.model.specs.Text.{Input, valueOf, nameAt, system, read}
 use Rattle.model.proofs.ListLaws.{map-map}
 use Rattle.model.proofs.Values.{Named, lines, numbered, input, value-of-lines}
-use Rattle.lines.specs.Rows.{row, tabulate, spots, placeRow, orNoState}
-use Rattle.lines.specs.Lines.{namesFrom, duplicateMark}
+use Rattle.rows.specs.Rows.{row, tabulate, placeRow, orNoState}
+use Rattle.lines.specs.Lines.{spots, namesFrom, duplicateMark}
 use Rattle.quick_step.specs.Quick.{NameRows}
-use Rattle.reader.specs.declared.Verdict.{Verdict}
-use Rattle.reader.specs.declared.Verdict.the-variants.{Passed}
-use Rattle.reader.specs.declared.Counts.{Counts}
-use Rattle.reader.specs.declared.Tables.{Tables}
-use Rattle.reader.specs.declared.Reading.{Reading}
-use Rattle.reader.specs.Tables.{verdictRefusal, noTables, tablesOf, noCounts, Answers}
-use Rattle.reader.specs.Lent.{AnswersRows}
+use Rattle.rows.specs.declared.Verdict.{Verdict}
+use Rattle.rows.specs.declared.Verdict.the-variants.{Passed}
+use Rattle.rows.specs.declared.Counts.{Counts}
+use Rattle.rows.specs.declared.Tables.{Tables}
+use Rattle.rows.specs.Tables.{verdictRefusal, tablesOf, tablesIn, noCounts}
+use Rattle.rows.specs.Told.{Told}
+use Rattle.rows.proofs.Telling.{told}
+use Rattle.reader.specs.Lent.{ReadsRows, AnswersRows}
 use Rattle.reader.specs.Sections.{TransitionRows, withSteps, noSteps, MachineRows, withMachines, noMachines, joined, counts}
 
 -- ---- the places of the names
@@ -79,22 +80,18 @@ module _ (n : ℕ) (es : List Name) (ts : List Named) (ms : List Machine) where
   duplicate-marked = refl
 
   -- the rows of the lines are the tables
-  tabled-value : tablesOf (passed (valueOf (lines n es ts ms)))
+  tabled-value : tablesOf (valueOf (lines n es ts ms))
       ≡ joined (counts n (length es) (length ts) (length ms)) (row 64 0 (spots (namesFrom (length (written (states n)))) es)) (row 64 0 (map length es)) (withSteps es noSteps ts) (withMachines n noMachines ms)
   unfolding tablesOf withSteps withMachines row
   tabled-value =
-      ap (λ (v : Input). tablesOf (passed v)) (value-of-lines n es ts ms)
+      ap tablesOf (value-of-lines n es ts ms)
       ∙ λ i. record {
-        states = n;
-        initial = 0;
-        events = length es;
+        counts = counts n (length es) (length-map ts (numbered es) i) (length ms);
         «name_at» = row 64 0 (names-placed i);
         «name_len» = row 64 0 (map length es);
-        transitions = length-map ts (numbered es) i;
         source = row 1024 0 (map-map (λ (t : Transition). t .source) (numbered es) ts i);
         event = row 1024 0 (map-map (λ (t : Transition). t .event) (numbered es) ts i);
         target = row 1024 0 (map-map (λ (t : Transition). t .target) (numbered es) ts i);
-        machines = length ms;
         sizes = row 16 0 (map (λ (m : Machine). length (m .places)) ms);
         duplicate = row 16 256 (duplicate-marked i);
         place = row 4096 255 (flatMap (λ (m : Machine). placeRow (m .places)) ms);
@@ -105,6 +102,9 @@ module _ (n : ℕ) (es : List Name) (ts : List Named) (ms : List Machine) where
 -- lines that are refused do not pass
 apart : {C : Type 0} {c : Checked Input} {q : Refusal} {v : Input} → c ≡ refused q → c ≡ passed v → C
 apart p e = let z : _≡_ {A = ℕ} 0 1 = cc in absurd (omega arith)
+
+passed-same : {v w : Input} → passed v ≡ passed w → v ≡ w
+passed-same e = cc
 
 -- the code's answer to a refusal
 pub rows-refused : {q : Refusal} {c : Checked Input} {v : Verdict} {k : Counts} {p : Tables} → c ≡ refused q → verdictRefusal v ≡ some q → k ≡ noCounts → AnswersRows c v k p
@@ -119,11 +119,11 @@ module _ {c : Checked Input} {n : ℕ} {es : List Name} {count k j : ℕ} {ats l
   rows-passed ts ms r a f g w p q o u =
       record {
         verdict = rw w;
-        rows = λ x e. rw (a, r .counted, r .lengths, p, q, f, o, u, g) (sym (tabled-value n es ts ms) ∙ ap tablesOf (sym w ∙ e));
+        rows = λ x e. rw (a, r .counted, r .lengths, p, q, f, o, u, g) (sym (tabled-value n es ts ms) ∙ ap tablesOf (passed-same (sym w ∙ e)));
         none = λ q e. apart e w;
       }
 
--- the answer with the tables in it
-pub answers-refused : {q : Refusal} {c : Checked Input} {r : Reading} → c ≡ refused q → verdictRefusal (r .verdict) ≡ some q → r .tables ≡ noTables → Answers c r
-unfolding tablesOf
-answers-refused e v p = record { verdict = rw e v; rows = rw e p }
+module _ (s : List ℕ) {w : Verdict} {k : Counts} {ats lens sources events targets sizes duplicates places : List ℕ} where
+  pub answering-rows : AnswersRows (read s) w k (tablesIn k ats lens sources events targets sizes duplicates places)
+      → (verdictRefusal w ≡ refusalOf (read s)) × ReadsRows s k ats lens sources events targets sizes duplicates places
+  answering-rows a = (a .verdict, record { tables = a .rows; told = λ v e. subst (Told s v) (sym (a .rows v e)) (told s v e); none = a .none })

@@ -1,8 +1,5 @@
 -- The laws behind the reader's functions.
 
--- searches in rising order, and the transitions of rows from the front: for the checks above the reader too
-pub mod Searches
-pub mod Fronts
 -- names: the table, looking one up, and that none is there twice
 pub mod NameRows
 -- rows that are stored into
@@ -15,7 +12,3 @@ pub mod StepSection
 pub mod MachineSection
 -- the answer
 pub mod Answering
--- what the tables tell of the text
-pub mod Telling
--- the bounds that a text that passed leaves its tables
-pub mod Bounds

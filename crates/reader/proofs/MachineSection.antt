@@ -18,12 +18,13 @@ use Rattle.model.specs.Bytes.{Name}
 use Rattle.model.specs.Reading.{fail}
 use Rattle.model.specs.Form.{stepLine, machineLine}
 use Rattle.model.specs.Text.{Input}
+use Rattle.rows.proofs.Telling.{rowOf, length-rows}
 use Rattle.model.proofs.ListLaws.{flatMap-append}
 use Rattle.model.proofs.Values.{Named, lines}
 use Rattle.lines.specs.declared.MachineLine.{MachineLine}
-use Rattle.lines.specs.Rows.{placeRow}
 use Rattle.lines.specs.Lines.{duplicateMark, allBelow}
-use Rattle.lines.proofs.Rows.{sets-append, length-placeRow}
+use Rattle.model.proofs.ListLaws.{sets-append}
+use Rattle.rows.proofs.Rows.{length-placeRow}
 use Rattle.lines.proofs.Found.{GotMachine}
 use Rattle.reader.specs.declared.Section.{Section}
 use Rattle.reader.specs.declared.Section.the-variants.{Refused, Read}
@@ -56,15 +57,6 @@ machines-start h l =
       early = l;
       so-far = λ es ts c p f r. record { machines = []; rest = r; last = λ _. f; counted = refl; rows = refl };
     }
-
-abbrev pub rowOf : Machine → List ℕ
-rowOf m = placeRow (m .places)
-
--- so many machines have so many entries
-pub length-rows : (ms : List Machine) → length (flatMap rowOf ms) ≡ length ms * 256
-unfolding flatMap
-length-rows [] = refl
-length-rows (m ∷ ms) = omega (arith, length-append (rowOf m) (flatMap rowOf ms), length-placeRow (m .places), length-rows ms)
 
 -- one row more in the table
 store-row : (now before : List ℕ) (ms : List Machine) (m : Machine) (k : ℕ) (row : List ℕ) → now ≡ sets before 0 (flatMap rowOf ms) → k ≡ length ms

@@ -20,13 +20,13 @@ use Rattle.model.proofs.Values.{same-eq, same-refl, mem-named, distinct-once, n
 use Rattle.lexer.specs.Words.{high, low}
 use Rattle.lexer.proofs.Telling.{name-bytes}
 use Rattle.lines.specs.declared.EventsAt.{EventsAt}
-use Rattle.lines.specs.Rows.{row, spots}
-use Rattle.lines.specs.Lines.{namesFrom, EventRows, FullRows, withNames}
+use Rattle.rows.specs.Rows.{row}
+use Rattle.lines.specs.Lines.{spots, namesFrom, EventRows, FullRows, withNames}
 use Rattle.lines.proofs.Found.{GotEvents}
 use Rattle.quick_step.specs.Quick.{NameRows, Same}
 use Rattle.quick_step.proofs.Names.{entry, entry-name, entry-told}
 use Rattle.reader.specs.Sections.{Finds, noNames}
-use Rattle.reader.proofs.Searches.{Upto, index-is}
+use Rattle.rows.proofs.Searches.{Upto, index-is}
 
 -- the entry k has what is sought if and only if it is this name
 module _ {es : List Name} {count : ℕ} {lens highs lows : List ℕ} (r : NameRows es count lens highs lows) (k : ℕ) (b : k < count)

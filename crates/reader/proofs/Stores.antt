@@ -7,7 +7,7 @@ use mathlib.Core.List.{List, [], _∷_, _++_, map}
 use lib.ListN.{length, getD, set, take, length-map}
 use lib.Seq.{sets, take-suc, length-take-le, take-all}
 use Rattle.model.proofs.ListLaws.{map-append}
-use Rattle.lines.proofs.Rows.{sets-append, sets-snoc}
+use Rattle.model.proofs.ListLaws.{sets-append, sets-snoc}
 
 -- one value more in a row
 pub store : {A : Type 0} (f : A → ℕ) (row before : List ℕ) (l : List A) (x : A) (k v : ℕ) → row ≡ sets before 0 (map f l) → k ≡ length l → v ≡ f x

@@ -2,18 +2,14 @@
 use Prim.Native.Nat.{ℕ}
 use mathlib.Core.Path.{_≡_}
 use mathlib.Core.List.{List}
-use mathlib.Core.Option.{some}
 use lib.ListN.{replicate}
 use Rattle.model.specs.Refusal.{Refusal, Checked, refused, passed, refusalOf}
-use Rattle.model.specs.Cases.{tabled}
 use Rattle.model.specs.Text.{Input, read}
-use Rattle.reader.specs.declared.Verdict.{Verdict}
-use Rattle.reader.specs.declared.Verdict.the-variants.{Refused, Passed}
-use Rattle.reader.specs.declared.Counts.{Counts}
-use Rattle.reader.specs.declared.Tables.{Tables}
-use Rattle.reader.specs.declared.Reading.{Reading}
-use Rattle.reader.specs.Tables.{verdictRefusal, noTables, tablesOf, tablesIn, noCounts}
-use Rattle.reader.specs.Told.{Told}
+use Rattle.rows.specs.declared.Verdict.{Verdict}
+use Rattle.rows.specs.declared.Counts.{Counts}
+use Rattle.rows.specs.declared.Tables.{Tables}
+use Rattle.rows.specs.Tables.{verdictRefusal, tablesOf, tablesIn, noCounts}
+use Rattle.rows.specs.Told.{Told}
 
 -- each entry is that of one that is not in use
 pub record FreshRows (ats lens sources events targets sizes duplicates places : List ℕ) : Type 0 where
@@ -28,17 +24,12 @@ pub record FreshRows (ats lens sources events targets sizes duplicates places : 
 
 -- the counts and the rows of a text: passed, its tables, which tell its value; refused, counts of 0, and rows of which nothing is said
 pub record ReadsRows (s : List ℕ) (c : Counts) (ats lens sources events targets sizes duplicates places : List ℕ) : Type 0 where
-  pub tables : (v : Input) → read s ≡ passed v → tablesIn c ats lens sources events targets sizes duplicates places ≡ tablesOf (passed v)
+  pub tables : (v : Input) → read s ≡ passed v → tablesIn c ats lens sources events targets sizes duplicates places ≡ tablesOf v
   pub told : (v : Input) → read s ≡ passed v → Told s v (tablesIn c ats lens sources events targets sizes duplicates places)
   pub none : (q : Refusal) → read s ≡ refused q → c ≡ noCounts
 
 -- the same of lines that come to c, with their verdict
 pub record AnswersRows (c : Checked Input) (v : Verdict) (k : Counts) (p : Tables) : Type 0 where
   pub verdict : verdictRefusal v ≡ refusalOf c
-  pub rows : (x : Input) → c ≡ passed x → p ≡ tablesOf (passed x)
+  pub rows : (x : Input) → c ≡ passed x → p ≡ tablesOf x
   pub none : (q : Refusal) → c ≡ refused q → k ≡ noCounts
-
--- the answer with the rows in it; refused, all 0
-unfoldable pub Holds : Verdict → Tables → Reading → Type 0
-Holds (Refused why) p r = (verdictRefusal (r .verdict) ≡ some (tabled why)) × (r .tables ≡ noTables)
-Holds Passed p r = r ≡ record { verdict = Passed; tables = p }

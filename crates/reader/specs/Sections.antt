@@ -15,12 +15,12 @@ use Rattle.model.specs.Form.{Line, states, step, written, statesLine, stepLine}
 use Rattle.model.specs.Text.{Input, linesFrom, eventNumber, valueOf, distinct, read}
 use Rattle.model.proofs.Values.{Named, lines}
 use Rattle.lexer.specs.Words as Words
-use Rattle.lines.specs.Rows.{row, spots, placeRow}
-use Rattle.lines.specs.Lines.{duplicateMark, EventRows, eventRows, namesFrom}
+use Rattle.rows.specs.Rows.{row, placeRow}
+use Rattle.lines.specs.Lines.{spots, duplicateMark, EventRows, eventRows, namesFrom}
 use Rattle.quick_step.specs.Quick.{NameRows}
-use Rattle.reader.specs.declared.Counts.{Counts}
-use Rattle.reader.specs.declared.Tables.{Tables}
-use Rattle.reader.specs.declared.Counted.{Counted}
+use Rattle.rows.specs.declared.Counts.{Counts}
+use Rattle.rows.specs.declared.Tables.{Tables}
+use Rattle.rows.specs.declared.Counted.{Counted}
 use Rattle.reader.specs.declared.Declared.{Declared}
 use Rattle.reader.specs.declared.FirstLines.{FirstLines}
 use Rattle.reader.specs.declared.FirstLines.the-variants as F
@@ -28,7 +28,7 @@ use Rattle.reader.specs.declared.StepAt.{StepAt}
 use Rattle.reader.specs.declared.StepAt.the-variants as A
 use Rattle.reader.specs.declared.Section.{Section}
 use Rattle.reader.specs.declared.Section.the-variants.{Refused, Read}
-use Rattle.reader.specs.Tables.{tablesIn}
+use Rattle.rows.specs.Tables.{tablesIn}
 use Rattle.reader.specs.Lent.{AnswersRows}
 
 -- what looking a name up answers

@@ -7,21 +7,18 @@ ghost use Prim.Native.Nat.{_*_, _<_, _≤_};
 ghost use lib.Dec.{leb, ltb};
 ghost use lib.ListN.{length};
 ghost use lib.Seq.{sets};
-ghost use Rattle.model.specs.Refusal.{passed, refusalOf};
+ghost use Rattle.model.specs.Refusal.{refusalOf};
 ghost use Rattle.model.specs.Cases.{tabled};
 ghost use Rattle.model.specs.Bytes.{Name};
 ghost use Rattle.model.specs.Text as Text;
 ghost use Rattle.lines.specs.Lines.{eventRows};
 ghost use Rattle.quick_step.specs.Quick.{NameRows};
-ghost use Rattle.reader.specs.declared.Verdict.the-variants.{Passed};
-ghost use Rattle.reader.specs.Tables.{verdictRefusal, tablesOf, noTables, tablesIn, noCounts};
-ghost use Rattle.reader.specs.Told.{Told};
-ghost use Rattle.reader.specs.Lent.{FreshRows, ReadsRows, Holds};
+ghost use Rattle.rows.specs.declared.Verdict.the-variants.{Passed};
+ghost use Rattle.rows.specs.Tables.{verdictRefusal, noCounts};
+ghost use Rattle.reader.specs.Lent.{FreshRows, ReadsRows};
 ghost use Rattle.reader.specs.Sections.{Finds, Declares, StepRead, countOf, StatesRead, noNames, ReadsEvents, FirstRead, ReadsSteps, transitionRows, noSteps, ReadsMachines, machineRows, noMachines, counts, ReadsLines};
 use lexer::Word;
-use lines::NO_STATE;
 use lines::StepLine;
-use lines::UNPLACED;
 use lines::read_events;
 use lines::read_machine;
 use lines::read_states;
@@ -37,83 +34,15 @@ use quick_step::HINTS;
 use quick_step::QuickStep;
 use quick_step::fill_hints;
 use quick_step::quick_step;
-
-// What a check answers, here whether a text passes 1 to 3.
-pub enum Verdict {
-    Refused(Refusal),
-    Passed,
-}
-
-// What a text holds, in rows. Document 01: a plan and its split. An entry that is not in use is 0, in `duplicate` NO_STATE, in `place` UNPLACED.
-pub struct Tables {
-    pub states: usize,
-    pub initial: usize,
-    // for each event the position of its name in the text, and the name's length
-    pub events: usize,
-    pub name_at: [usize; MAX_EVENTS],
-    pub name_len: [usize; MAX_EVENTS],
-    // for each transition, in the order of the lines
-    pub transitions: usize,
-    pub source: [u8; MAX_TRANSITIONS],
-    pub event: [u8; MAX_TRANSITIONS],
-    pub target: [u8; MAX_TRANSITIONS],
-    // for each machine how many places it has, and the lowest state that it lists twice or NO_STATE
-    pub machines: usize,
-    pub sizes: [usize; MAX_MACHINES],
-    pub duplicate: [usize; MAX_MACHINES],
-    // at m * 256 + x the place of state x in machine m, or UNPLACED
-    pub place: [u8; 4096],
-}
-
-// How many states, events, transitions and machines a text has, and its initial state.
-pub struct Counts {
-    pub states: usize,
-    pub initial: usize,
-    pub events: usize,
-    pub transitions: usize,
-    pub machines: usize,
-}
-
-// The answer to a text whose rows are lent. Refused by 1 to 3, its counts are all 0, and what the rows hold is left open.
-pub struct Counted {
-    pub verdict: Verdict,
-    pub counts: Counts,
-}
-
-// The answer to a text. Refused by 1 to 3, its tables are all 0.
-pub struct Reading {
-    pub verdict: Verdict,
-    pub tables: Tables,
-}
+use rows::Counted;
+use rows::Counts;
+use rows::Verdict;
+use rows::narrow;
 
 // Lines of one kind: how many were read and the position after them, or the refusal of the next.
 enum Section {
     Refused(Refusal),
     Read { count: usize, next: usize },
-}
-
-fn refused(why: Refusal) -> Reading
-    ensures { λ r. ⌜ verdictRefusal (r .verdict) ≡ some (tabled why) ⌝ }
-    ensures { λ r. ⌜ r .tables ≡ noTables ⌝ }
-{
-    Reading {
-        verdict: Verdict::Refused(why),
-        tables: Tables {
-            states: 0,
-            initial: 0,
-            events: 0,
-            name_at: [0usize; MAX_EVENTS],
-            name_len: [0usize; MAX_EVENTS],
-            transitions: 0,
-            source: [0u8; MAX_TRANSITIONS],
-            event: [0u8; MAX_TRANSITIONS],
-            target: [0u8; MAX_TRANSITIONS],
-            machines: 0,
-            sizes: [0usize; MAX_MACHINES],
-            duplicate: [0usize; MAX_MACHINES],
-            place: [0u8; 4096],
-        },
-    }
 }
 
 // The first of the names with this length and these bytes; their count if there is none. Names share beginnings, so the bytes after the eighth are compared first.
@@ -161,20 +90,6 @@ fn distinct_names<'a>(
         k += 1;
     }
     true
-}
-
-// A number as an entry of a row, and an entry as a number.
-pub fn narrow(x: usize) -> u8
-    requires { ⌜ x < 256 ⌝ }
-    ensures { λ r. ⌜ r ≡ x ⌝ }
-{
-    x as u8
-}
-
-pub fn wide(x: u8) -> usize
-    ensures { λ r. ⌜ (r ≡ x) × (r < 256) ⌝ }
-{
-    x as usize
 }
 
 // States a and b are below n, and event e below m.
@@ -575,80 +490,4 @@ pub fn read_rows(
             place,
         ),
     }
-}
-
-// The answer with the rows in it.
-fn with_rows(
-    r: Counted,
-    name_at: [usize; MAX_EVENTS],
-    name_len: [usize; MAX_EVENTS],
-    source: [u8; MAX_TRANSITIONS],
-    event: [u8; MAX_TRANSITIONS],
-    target: [u8; MAX_TRANSITIONS],
-    sizes: [usize; MAX_MACHINES],
-    duplicate: [usize; MAX_MACHINES],
-    place: [u8; 4096],
-) -> Reading
-    ensures { λ x. ⌜ Holds (r .verdict) (tablesIn (r .counts) «name_at» «name_len» source event target sizes duplicate place) x ⌝ }
-{
-    let verdict = r.verdict;
-    if let Verdict::Refused(why) = verdict {
-        return refused(why);
-    }
-    Reading {
-        verdict: Verdict::Passed,
-        tables: Tables {
-            states: r.counts.states,
-            initial: r.counts.initial,
-            events: r.counts.events,
-            name_at,
-            name_len,
-            transitions: r.counts.transitions,
-            source,
-            event,
-            target,
-            machines: r.counts.machines,
-            sizes,
-            duplicate,
-            place,
-        },
-    }
-}
-
-// The text's rows, or its refusal by 1, 2 or 3.
-pub fn read(text: &[u8]) -> Reading
-    ensures { λ r. ⌜ verdictRefusal (r .verdict) ≡ refusalOf (Text.read (now (text .entry))) ⌝ }
-    ensures { λ r. ⌜ r .tables ≡ tablesOf (Text.read (now (text .entry))) ⌝ }
-    ensures { λ r. ⌜ ((v : Text.Input) → Text.read (now (text .entry)) ≡ passed v → Told (now (text .entry)) v (r .tables)) ⌝ }
-{
-    let mut name_at = [0usize; MAX_EVENTS];
-    let mut name_len = [0usize; MAX_EVENTS];
-    let mut source = [0u8; MAX_TRANSITIONS];
-    let mut event = [0u8; MAX_TRANSITIONS];
-    let mut target = [0u8; MAX_TRANSITIONS];
-    let mut sizes = [0usize; MAX_MACHINES];
-    let mut duplicate = [NO_STATE; MAX_MACHINES];
-    let mut place = [UNPLACED; 4096];
-    let r = read_rows(
-        text,
-        &mut name_at,
-        &mut name_len,
-        &mut source,
-        &mut event,
-        &mut target,
-        &mut sizes,
-        &mut duplicate,
-        &mut place,
-    );
-    with_rows(
-        r,
-        name_at,
-        name_len,
-        source,
-        event,
-        target,
-        sizes,
-        duplicate,
-        place,
-    )
 }

@@ -8,10 +8,10 @@ use mathlib.Core.List.{List}
 use mathlib.Core.Option.{none}
 use Rattle.model.specs.TransitionSystem.{unusedEvent}
 use Rattle.model.specs.Machine.{Machine}
-use Rattle.reader.specs.declared.Tables.{Tables}
-use Rattle.reader.specs.declared.Verdict.the-variants.{Passed}
-use Rattle.reader.specs.Told.{entry, systemOf}
-use Rattle.reader.specs.Bounded.{Bounded}
+use Rattle.rows.specs.declared.Tables.{Tables}
+use Rattle.rows.specs.declared.Verdict.the-variants.{Passed}
+use Rattle.rows.specs.Told.{entry, systemOf}
+use Rattle.rows.specs.Bounded.{Bounded}
 use Rattle.regions.specs.Indexed.{Firsts}
 use Rattle.regions.specs.Crossings.{Scannable, Scanned, Leading, MovesPut}
 use Rattle.regions.specs.Columns.{Comparable, AlikeAtOnce}
@@ -21,15 +21,15 @@ use Rattle.regions.proofs.Marks.{unplaced-first}
 use Rattle.regions.proofs.Scan.{Settled, answered}
 use Rattle.regions.proofs.Checking.{Checking, check-start, check-more, check-end, Crossed}
 
-module _ (p : Tables) (b : Bounded p) (u : unusedEvent (systemOf p) ≡ none) (first : List ℕ) (f : Firsts (p .event) (p .transitions) first) where
-  begins : (e : ℕ) → e < p .events → entry first e < p .transitions
+module _ (p : Tables) (b : Bounded p) (u : unusedEvent (systemOf p) ≡ none) (first : List ℕ) (f : Firsts (p .event) (p .counts .transitions) first) where
+  begins : (e : ℕ) → e < p .counts .events → entry first e < p .counts .transitions
   begins = first-of p b u first f
 
-  pub leading : Leading first (p .events)
+  pub leading : Leading first (p .counts .events)
   leading = record { size = f .size; low = λ e l. omega (arith, begins e l, b .transitions) }
 
   pub comparable : RowLengths (p .source) (p .event) (p .target) (p .duplicate) (p .place)
-      → Comparable (p .source) (p .event) (p .target) first (p .states) (p .transitions)
+      → Comparable (p .source) (p .event) (p .target) first (p .counts .states) (p .counts .transitions)
   comparable r =
       record {
         source-size = r .sources;
@@ -43,9 +43,9 @@ module _ (p : Tables) (b : Bounded p) (u : unusedEvent (systemOf p) ≡ none) (f
         firsts = λ k l. begins (entry (p .event) k) (b .event k l);
       }
 
-  module _ {pre post : List ℕ} (single : (m : ℕ) → m < p .machines → entry (p .duplicate) m ≡ 256)
-      (agree : AlikeAtOnce (p .source) (p .event) (p .target) (p .place) first (p .states) (p .machines) (p .transitions)) (moves : MovesPut (p .source) (p .target) (p .place) first (p .events) (p .machines) pre post) where
-    settled : (m : ℕ) → m < p .machines → (d : ℕ) → d < p .events → Settled (p .source) (p .event) (p .target) (p .place) (p .transitions) m pre post d (entry first d)
+  module _ {pre post : List ℕ} (single : (m : ℕ) → m < p .counts .machines → entry (p .duplicate) m ≡ 256)
+      (agree : AlikeAtOnce (p .source) (p .event) (p .target) (p .place) first (p .counts .states) (p .counts .machines) (p .counts .transitions)) (moves : MovesPut (p .source) (p .target) (p .place) first (p .counts .events) (p .counts .machines) pre post) where
+    settled : (m : ℕ) → m < p .counts .machines → (d : ℕ) → d < p .counts .events → Settled (p .source) (p .event) (p .target) (p .place) (p .counts .transitions) m pre post d (entry first d)
     settled m h d l =
         record {
           low = begins d l;
@@ -55,12 +55,12 @@ module _ (p : Tables) (b : Bounded p) (u : unusedEvent (systemOf p) ≡ none) (f
           post-place = moves .posts m h d l;
         }
 
-    scan : (m : ℕ) → m < p .machines → (mach : Machine) → Scannable (systemOf p) mach m (p .source) (p .event) (p .target) (p .place) (p .transitions)
-        → Scanned (systemOf p) mach m pre post (p .events)
+    scan : (m : ℕ) → m < p .counts .machines → (mach : Machine) → Scannable (systemOf p) mach m (p .source) (p .event) (p .target) (p .place) (p .counts .transitions)
+        → Scanned (systemOf p) mach m pre post (p .counts .events)
     unfolding systemOf
     scan m h mach s = answered first (systemOf p) mach s (omega arith) (settled m h) (λ l. absurd (omega arith))
 
-    crossed : {k : ℕ} → Checking p k pre post → k < p .machines → Crossed p k (p .states) (p .events) pre post pre post
+    crossed : {k : ℕ} → Checking p k pre post → k < p .counts .machines → Crossed p k (p .counts .states) (p .counts .events) pre post pre post
     crossed {k} c h =
         record {
           sought =
@@ -69,16 +69,16 @@ module _ (p : Tables) (b : Bounded p) (u : unusedEvent (systemOf p) ≡ none) (f
                 here = h;
                 bounded = b;
                 single = single k h;
-                search = unplaced-first (p .place) (k * 256) {n = p .states} {x = p .states} (record { most = omega arith; each = agree .placed k h }) (λ l. absurd (omega arith)) .1;
+                search = unplaced-first (p .place) (k * 256) {n = p .counts .states} {x = p .counts .states} (record { most = omega arith; each = agree .placed k h }) (λ l. absurd (omega arith)) .1;
               };
           covered = omega arith;
           scan = scan k h;
           kept = record { rows = moves .rows; same = λ j e l x. refl };
         }
 
-    pass : (k : ℕ) → k ≤ p .machines → Checking p k pre post
+    pass : (k : ℕ) → k ≤ p .counts .machines → Checking p k pre post
     pass zero l = check-start (moves .rows)
     pass (suc k) l = rw (add-one k) at (check-more (crossed (pass k (omega arith)) l) (omega arith))
 
     pub all-pass : Answer p Passed pre post
-    all-pass = check-end (pass (p .machines) (omega arith)) (omega arith)
+    all-pass = check-end (pass (p .counts .machines) (omega arith)) (omega arith)

@@ -10,10 +10,10 @@ use lib.Dec.{T, eqb, eqb→eq}
 use Rattle.model.specs.Lists.{exists}
 use Rattle.model.specs.TransitionSystem.{Transition, unusedEvent}
 use Rattle.model.proofs.Laws.{dec, contra, eqb-of, cond-true, cond-false, order, not-not, exists-elim, lowest-none}
-use Rattle.reader.specs.declared.Tables.{Tables}
-use Rattle.reader.specs.Told.{entry, systemOf}
-use Rattle.reader.specs.Bounded.{Bounded}
-use Rattle.reader.proofs.Fronts.{front-member}
+use Rattle.rows.specs.declared.Tables.{Tables}
+use Rattle.rows.specs.Told.{entry, systemOf}
+use Rattle.rows.specs.Bounded.{Bounded}
+use Rattle.rows.proofs.Fronts.{front-member}
 use Rattle.regions.specs.Indexed.{nextIn, nextOf, Firsts, Indexed, Chained}
 
 -- r is the first position from k on with the event e, or the end
@@ -58,22 +58,22 @@ pub after-next : {event first next : List ℕ} {n : ℕ} → Indexed event n fir
 after-next {event} {n = n} i k l = rw (i .follows k l) (next-of event n (entry event k) (suc k) l)
 
 -- a transition of the event
-used : (p : Tables) → unusedEvent (systemOf p) ≡ none → (e : ℕ) → e < p .events → (k : ℕ) × (k < p .transitions) × (entry (p .event) k ≡ e)
+used : (p : Tables) → unusedEvent (systemOf p) ≡ none → (e : ℕ) → e < p .counts .events → (k : ℕ) × (k < p .counts .transitions) × (entry (p .event) k ≡ e)
 unfolding systemOf unusedEvent
 used p u e h =
     let (t, m, s) = exists-elim _ _ (not-not (exists (λ (t : Transition). eqb (t .event) e) (systemOf p .transitions)) (lowest-none _ _ u e h)) in
     let (k, l, q) = front-member _ _ _ _ t m in
     (k, l, sym (ap (λ (v : Transition). v .event) q) ∙ eqb→eq (t .event) e s)
 
-pub first-of : (p : Tables) → Bounded p → unusedEvent (systemOf p) ≡ none → (first : List ℕ) → Firsts (p .event) (p .transitions) first
-    → (e : ℕ) → e < p .events → entry first e < p .transitions
+pub first-of : (p : Tables) → Bounded p → unusedEvent (systemOf p) ≡ none → (first : List ℕ) → Firsts (p .event) (p .counts .transitions) first
+    → (e : ℕ) → e < p .counts .events → entry first e < p .counts .transitions
 first-of p b u first i e h = let (k, l, q) = used p u e h in at k l q (order k (entry first e))
   where
-    at : (k : ℕ) → k < p .transitions → entry (p .event) k ≡ e → (k < entry first e) ⊎ (entry first e ≤ k) → entry first e < p .transitions
+    at : (k : ℕ) → k < p .counts .transitions → entry (p .event) k ≡ e → (k < entry first e) ⊎ (entry first e ≤ k) → entry first e < p .counts .transitions
     at k l q (inl o) = absurd (first-next i e (omega (arith, b .events)) .free k (omega arith) o q)
     at k l q (inr o) = omega arith
 
-pub chained : (p : Tables) → Bounded p → unusedEvent (systemOf p) ≡ none → (first next : List ℕ) → Indexed (p .event) (p .transitions) first next
-    → Chained (p .transitions) (p .events) first next
+pub chained : (p : Tables) → Bounded p → unusedEvent (systemOf p) ≡ none → (first next : List ℕ) → Indexed (p .event) (p .counts .transitions) first next
+    → Chained (p .counts .transitions) (p .counts .events) first next
 chained p b u first next i =
     record { first-size = i .firsts .size; next-size = i .next-size; begins = first-of p b u first (i .firsts); rises = λ k h. after-next i k h .least }

@@ -12,8 +12,8 @@ use Rattle.model.specs.TransitionSystem.{Transition, TransitionSystem}
 use Rattle.model.specs.Product.{Move}
 use Rattle.model.specs.Machine.{Machine, placeOf, move, uniform}
 use Rattle.model.proofs.Laws.{dec, T-true, T-false, contra, not-T}
-use Rattle.reader.specs.Told.{entry, transitionAt}
-use Rattle.reader.proofs.Fronts.{at-listed, front-member}
+use Rattle.rows.specs.Told.{entry, transitionAt}
+use Rattle.rows.proofs.Fronts.{at-listed, front-member}
 use Rattle.regions.specs.Moves.{moveAt}
 use Rattle.regions.specs.Crossings.{crossingAt, agreeing, preMark, Scannable}
 use Rattle.regions.proofs.Alike.{Alike, agreeing-alike, alike-agreeing, through, Level, uniform-alike, level-move}

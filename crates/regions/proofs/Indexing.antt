@@ -7,7 +7,7 @@ use mathlib.Core.Path.{_≡_, ap, sym, _∙_}
 use mathlib.Core.List.{List}
 use lib.ListN.{length, set, replicate, length-set, length-replicate, getD-replicate}
 use lib.Seq.{getD-set-same, getD-set-other}
-use Rattle.reader.specs.Told.{entry}
+use Rattle.rows.specs.Told.{entry}
 use Rattle.regions.specs.Indexed.{nextIn, nextOf, Firsts, Indexed}
 
 module _ (event : List ℕ) (n e k : ℕ) where

@@ -10,7 +10,7 @@ use lib.Dec.{T, eqb, eqb→eq}
 use lib.ListN.{length, set, length-set}
 use lib.Seq.{getD-set-same, getD-set-other}
 use Rattle.model.proofs.Laws.{and-l, and-r, or-e, T-true, contra, eqb-of}
-use Rattle.reader.specs.Told.{entry}
+use Rattle.rows.specs.Told.{entry}
 use Rattle.regions.specs.Crossings.{crossingAt, agreeing}
 use Rattle.regions.specs.Columns.{laneAt, throughLane, Lane, PutLane, Comparable, AllAgree, AlikeAtOnce}
 use Rattle.regions.proofs.Alike.{Alike, alike-agreeing}

@@ -11,12 +11,12 @@ use Rattle.model.specs.Lists.{elem, lowest}
 use Rattle.model.specs.Machine.{Machine, placeOf, duplicateState, unplacedState}
 use Rattle.model.proofs.Laws.{not-not, neqb, eqb-of, lowest-none}
 use Rattle.model.proofs.Places.{Placed}
-use Rattle.reader.specs.declared.Tables.{Tables}
-use Rattle.reader.specs.Told.{entry, below, systemOf, orNone, placeAt, duplicateAt, MachineTold}
-use Rattle.reader.specs.Bounded.{Bounded}
-use Rattle.reader.proofs.Searches.{Upto, searched, lowest-same}
-use Rattle.reader.proofs.Fronts.{within-tables}
-use Rattle.reader.proofs.Telling.{place-below, placed-at}
+use Rattle.rows.specs.declared.Tables.{Tables}
+use Rattle.rows.specs.Told.{entry, below, systemOf, orNone, placeAt, duplicateAt, MachineTold}
+use Rattle.rows.specs.Bounded.{Bounded}
+use Rattle.rows.proofs.Searches.{Upto, searched, lowest-same}
+use Rattle.rows.proofs.Fronts.{within-tables}
+use Rattle.rows.proofs.Telling.{place-below, placed-at}
 use Rattle.regions.specs.Crossings.{Scannable}
 
 -- the search for an entry 255, from a position on, stops at one or at the end
@@ -48,10 +48,10 @@ module _ {p : Tables} {k : ℕ} {m : Machine} (told : MachineTold (systemOf p) p
   twice-none h = sym (told .duplicate) ∙ rw (eq-eqb (entry (p .duplicate) k) 256 h)
 
   module _ (b : Bounded p) where
-    pub unplaced-search : lowest (λ x. eqb (entry (p .place) (k * 256 + x)) 255) (p .states) ≡ unplacedState (systemOf p) m
+    pub unplaced-search : lowest (λ x. eqb (entry (p .place) (k * 256 + x)) 255) (p .counts .states) ≡ unplacedState (systemOf p) m
     unfolding unplacedState systemOf placeAt
     unplaced-search =
-        lowest-same _ _ (p .states)
+        lowest-same _ _ (p .counts .states)
         (λ x h. unplaced-test (entry (p .place) (k * 256 + x)) (placeOf m x) (elem x (flatten (m .places))) (told .place x (omega (arith, b .states))))
 
     module _ (once : duplicateState (systemOf p) m ≡ none) (all : unplacedState (systemOf p) m ≡ none) where
@@ -63,7 +63,7 @@ module _ {p : Tables} {k : ℕ} {m : Machine} (told : MachineTold (systemOf p) p
             placed = λ s l. not-not (elem s (flatten (m .places))) (lowest-none _ _ all s l);
           }
 
-      pub scannable : k < p .machines → Scannable (systemOf p) m k (p .source) (p .event) (p .target) (p .place) (p .transitions)
+      pub scannable : k < p .counts .machines → Scannable (systemOf p) m k (p .source) (p .event) (p .target) (p .place) (p .counts .transitions)
       unfolding systemOf
       scannable h =
           record {

@@ -6,7 +6,7 @@ use mathlib.Core.Path.{_≡_, refl, ap, _∙_}
 use mathlib.Core.List.{List}
 use lib.ListN.{set, length-set}
 use lib.Seq.{getD-set-same, getD-set-other}
-use Rattle.reader.specs.Told.{entry}
+use Rattle.rows.specs.Told.{entry}
 use Rattle.regions.specs.declared.Crossing.{Crossing}
 use Rattle.regions.specs.Moves.{MoveRows}
 use Rattle.regions.specs.Crossings.{crossingAt, preMark, PutMoves, MovesPut}

@@ -14,8 +14,8 @@ use Rattle.model.specs.Lists.{every}
 use Rattle.model.specs.TransitionSystem.{TransitionSystem}
 use Rattle.model.specs.Machine.{Machine, uniform, nonuniformEvent}
 use Rattle.model.proofs.Laws.{not-T, contra, order}
-use Rattle.reader.specs.Told.{entry, transitionAt}
-use Rattle.reader.proofs.Searches.{searched}
+use Rattle.rows.specs.Told.{entry, transitionAt}
+use Rattle.rows.proofs.Searches.{searched}
 use Rattle.regions.specs.declared.Crossing.{Crossing}
 use Rattle.regions.specs.Moves.{moveAt, MoveRows}
 use Rattle.regions.specs.Indexed.{Indexed, Chained}

@@ -10,7 +10,7 @@ use Rattle.model.specs.Machine.{Machine, placeOf, nonuniformEvent}
 use Rattle.model.specs.Machine as M
 use Rattle.model.proofs.Bounds.{Within}
 use Rattle.model.proofs.Places.{Placed}
-use Rattle.reader.specs.Told.{entry, firstTransitions, below}
+use Rattle.rows.specs.Told.{entry, firstTransitions, below}
 use Rattle.regions.specs.declared.Crossing.{Crossing}
 use Rattle.regions.specs.Moves.{moveAt, MoveRows}
 

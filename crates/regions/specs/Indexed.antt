@@ -5,7 +5,7 @@ use mathlib.Core.Bool.{cond}
 use mathlib.Core.List.{List}
 use lib.Dec.{eqb}
 use lib.ListN.{length}
-use Rattle.reader.specs.Told.{entry}
+use Rattle.rows.specs.Told.{entry}
 
 -- among j positions from k on the first with the event e; k + j if there is none
 unfoldable pub nextIn : List ℕ → ℕ → ℕ → ℕ → ℕ

@@ -11,7 +11,7 @@ use Rattle.model.specs.Lists.{At}
 use Rattle.model.specs.TransitionSystem.{TransitionSystem}
 use Rattle.model.specs.Product.{Move}
 use Rattle.model.specs.Machine.{Machine, Decomposition, move}
-use Rattle.reader.specs.Told.{entry}
+use Rattle.rows.specs.Told.{entry}
 
 unfoldable pub moveAt : List ℕ → List ℕ → ℕ → ℕ → Option Move
 moveAt pre post k e =

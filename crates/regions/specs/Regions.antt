@@ -7,13 +7,13 @@ use mathlib.Core.Option.{none}
 use lib.ListN.{length}
 use Rattle.model.specs.TransitionSystem.{unusedEvent}
 use Rattle.model.specs.Machine.{Decomposition, machinesRefusal}
-use Rattle.reader.specs.declared.Counts.{Counts}
-use Rattle.reader.specs.declared.Tables.{Tables}
-use Rattle.reader.specs.declared.Verdict.{Verdict}
-use Rattle.reader.specs.declared.Verdict.the-variants.{Passed}
-use Rattle.reader.specs.Tables.{verdictRefusal, tablesIn}
-use Rattle.reader.specs.Told.{systemOf, MachinesTold}
-use Rattle.reader.specs.Bounded.{Bounded}
+use Rattle.rows.specs.declared.Counts.{Counts}
+use Rattle.rows.specs.declared.Tables.{Tables}
+use Rattle.rows.specs.declared.Verdict.{Verdict}
+use Rattle.rows.specs.declared.Verdict.the-variants.{Passed}
+use Rattle.rows.specs.Tables.{verdictRefusal, tablesIn}
+use Rattle.rows.specs.Told.{systemOf, MachinesTold}
+use Rattle.rows.specs.Bounded.{Bounded}
 use Rattle.regions.specs.Moves.{MoveRows, MovesTold}
 
 -- the tables but for names and sizes, which no check here reads

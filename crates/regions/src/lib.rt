@@ -8,22 +8,22 @@ ghost use lib.Dec.{T, eqb};
 ghost use Rattle.model.specs.Lists.{lowest};
 ghost use Rattle.model.specs.TransitionSystem.{TransitionSystem};
 ghost use Rattle.model.specs.Machine.{Machine};
-ghost use Rattle.reader.specs.Told.{entry, below};
+ghost use Rattle.rows.specs.Told.{entry, below};
 ghost use Rattle.regions.specs.Moves.{MoveRows};
 ghost use Rattle.regions.specs.Indexed.{Firsts, Indexed, Chained};
 ghost use Rattle.regions.specs.Crossings.{crossingAt, agreeing, preMark, RowSizes, Scannable, Scanned, EarlierKept, Leading, PutMoves, MovesPut};
 ghost use Rattle.regions.specs.Columns.{laneAt, Lane, PutLane, Comparable, AllAgree, AlikeAtOnce};
 ghost use Rattle.regions.specs.Regions.{Checkable, RegionsTold, PassesAtOnce};
-use lines::NO_STATE;
-use lines::UNPLACED;
 use model::MAX_EVENTS;
 use model::MAX_MACHINES;
 use model::MAX_STATES;
 use model::MAX_TRANSITIONS;
 use model::Refusal;
-use reader::Counts;
-use reader::Verdict;
-use reader::wide;
+use rows::Counts;
+use rows::NO_STATE;
+use rows::UNPLACED;
+use rows::Verdict;
+use rows::wide;
 
 // In the row of pre-places: the event is not on the machine.
 pub const NOT_ON: u8 = 255;

@@ -19,10 +19,10 @@ use Rattle.model.proofs.Simulate.{covers-of}
 use Rattle.model.proofs.Standing.{at-places, length-places}
 use Rattle.model.proofs.Together.{SameMoves, same-effective}
 use Rattle.model.proofs.Refusing.{same-events}
-use Rattle.reader.specs.declared.Tables.{Tables}
-use Rattle.reader.specs.Told.{entry}
-use Rattle.reader.proofs.Bounds.{limits}
-use Rattle.reader.proofs.Telling.{told-place, told-events, told-initial}
+use Rattle.rows.specs.declared.Tables.{Tables}
+use Rattle.rows.specs.Told.{entry}
+use Rattle.rows.proofs.Bounds.{limits}
+use Rattle.rows.proofs.Telling.{told-place, told-events, told-initial}
 use Rattle.regions.specs.Moves.{moveAt}
 use Rattle.product.specs.Stepping.{Standing, IsOn, Runs, RunsEvents}
 use Rattle.product.proofs.Places.{stands-padded}
@@ -42,23 +42,23 @@ module _ {s : List ℕ} {p : Tables} {pre post excited : List ℕ} (j : Judged s
   abbrev machines : Decomposition
   machines = value .machines
 
-  counted : p .machines ≡ length machines
+  counted : p .counts .machines ≡ length machines
   counted = j .past .held .told .tells-machines .counted
 
   -- the rows tell the machines' moves
-  same : (e : ℕ) → e < system value .events → SameMoves (moveAt pre post) (move (system value)) (numbers (p .machines)) machines e
+  same : (e : ℕ) → e < system value .events → SameMoves (moveAt pre post) (move (system value)) (numbers (p .counts .machines)) machines e
   same = told-moves (j .past .cover .moves) counted
 
   -- past 11 each event is on a machine
-  on-a-machine : (e : ℕ) → e < system value .events → IsOn pre post (p .machines) e
+  on-a-machine : (e : ℕ) → e < system value .events → IsOn pre post (p .counts .machines) e
   on-a-machine e l =
-      subst T (sym (same-effective (moveAt pre post) (move (system value)) (numbers (p .machines)) machines e (same e l)))
+      subst T (sym (same-effective (moveAt pre post) (move (system value)) (numbers (p .counts .machines)) machines e (same e l)))
       (covers-of (system value) machines (j .covered) .effective e l)
 
   abbrev start : List ℕ
   start = places machines (value .initial)
 
-  stands : (row : List ℕ) → Standing (λ k. entry (p .place) (k * 256 + p .initial)) (p .machines) row → row ≡ Services.padded start
+  stands : (row : List ℕ) → Standing (λ k. entry (p .place) (k * 256 + p .counts .initial)) (p .counts .machines) row → row ≡ Services.padded start
   stands row t =
       let n = length-places machines (value .initial) in
       let limit = limits s value (j .past .held .passes) in
@@ -75,14 +75,14 @@ module _ {s : List ℕ} {p : Tables} {pre post excited : List ℕ} (j : Judged s
         unused = λ k l. t .unused k (omega (arith, n, counted));
       })
 
-  module _ {row : List ℕ} (t : Standing (λ k. entry (p .place) (k * 256 + p .initial)) (p .machines) row) where
-    first : take (p .machines) row ≡ start
+  module _ {row : List ℕ} (t : Standing (λ k. entry (p .place) (k * 256 + p .counts .initial)) (p .counts .machines) row) where
+    first : take (p .counts .machines) row ≡ start
     unfolding Services.padded
     first =
-        ap (take (p .machines)) (stands row t)
-        ∙ take-at start (replicate (16 - length start) 0) (p .machines) (length-places machines (value .initial) ∙ sym counted)
+        ap (take (p .counts .machines)) (stands row t)
+        ∙ take-at start (replicate (16 - length start) 0) (p .counts .machines) (length-places machines (value .initial) ∙ sym counted)
 
-    pub runnable : Runs pre post (p .machines) (p .events) row
+    pub runnable : Runs pre post (p .counts .machines) (p .counts .events) row
     runnable =
         record {
           few = j .past .held .bounds .machines;
@@ -92,11 +92,11 @@ module _ {s : List ℕ} {p : Tables} {pre post excited : List ℕ} (j : Judged s
           standing = stands row t ∙ ap Services.padded (sym first);
         }
 
-    pub ran : (es : List ℕ) {a : Services.RunAnswer} → RunsEvents pre post (p .machines) (p .events) row es a → a ≡ Services.run s es
+    pub ran : (es : List ℕ) {a : Services.RunAnswer} → RunsEvents pre post (p .counts .machines) (p .counts .events) row es a → a ≡ Services.run s es
     unfolding Services.run
     ran es answers =
         rw (past-12 j)
         (answers
-        ∙ ap (λ (qs : List ℕ). Services.ranAnswer (Services.runEvents (moveAt pre post) (p .events) (numbers (p .machines)) qs es)) first
-        ∙ ap (λ (k : ℕ). Services.ranAnswer (Services.runEvents (moveAt pre post) k (numbers (p .machines)) start es)) (told-events (j .past .held .told))
-        ∙ ap Services.ranAnswer (same-events (moveAt pre post) (move (system value)) (length (value .names)) (numbers (p .machines)) machines start es same))
+        ∙ ap (λ (qs : List ℕ). Services.ranAnswer (Services.runEvents (moveAt pre post) (p .counts .events) (numbers (p .counts .machines)) qs es)) first
+        ∙ ap (λ (k : ℕ). Services.ranAnswer (Services.runEvents (moveAt pre post) k (numbers (p .counts .machines)) start es)) (told-events (j .past .held .told))
+        ∙ ap Services.ranAnswer (same-events (moveAt pre post) (move (system value)) (length (value .names)) (numbers (p .counts .machines)) machines start es same))

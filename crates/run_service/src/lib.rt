@@ -2,8 +2,6 @@
 ghost use mathlib.Core.Path.{_≡_};
 ghost use Rattle.model.specs.Services as Services;
 ghost use Rattle.product.specs.Answers.{runAnswer};
-use lines::NO_STATE;
-use lines::UNPLACED;
 use model::MAX_EVENTS;
 use model::MAX_MACHINES;
 use model::MAX_TRANSITIONS;
@@ -11,9 +9,11 @@ use product::RunAnswer;
 use product::places_of;
 use product::refused;
 use product::run_events;
-use reader::Verdict;
 use regions::MOVES;
 use regions::NOT_ON;
+use rows::NO_STATE;
+use rows::UNPLACED;
+use rows::Verdict;
 use stages::read_as_far_as_12;
 use transition_system::EXCITATION_WORDS;
 

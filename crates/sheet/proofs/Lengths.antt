@@ -10,18 +10,20 @@ use mathlib.Core.Bool.{Bool, true, false, not, _&&_, cond}
 use mathlib.Core.List.{List, [], flatMap}
 use lib.Dec.{T, ltb, ltb→lt, lt→ltb}
 use lib.ListN.{length, getD, length-append}
-use Rattle.model.specs.Bytes.{bytes, digits, Name}
+use Rattle.model.specs.Bytes.{digits, Name}
 use Rattle.model.specs.Sheet.{moveBytes}
 use Rattle.model.proofs.Laws.{T-true, T-false, and-l, and-r, and-not, order, not-below, cond-true, cond-false}
-use Rattle.reader.specs.declared.Counts.{Counts}
-use Rattle.reader.specs.Tables.{tablesIn}
-use Rattle.reader.specs.Told.{entry}
-use Rattle.reader.specs.Bounded.{NamesInside}
-use Rattle.sheet.specs.Written.{namesIn, rowMoves, rowLine, rowLines, movesBytes, rowSheet}
+use Rattle.rows.specs.declared.Counts.{Counts}
+use Rattle.rows.specs.Tables.{tablesIn}
+use Rattle.rows.specs.Told.{entry}
+use Rattle.rows.specs.Bounded.{NamesInside}
+use Rattle.rows.specs.Names.{namesIn}
+use Rattle.sheet.specs.Written.{rowMoves, rowLine, rowLines, movesBytes, rowSheet}
 use Rattle.sheet.specs.Rows.{sheetRows, SheetLength}
 use Rattle.sheet.specs.Lengths.{figuresAt, machinesOn, figuresOn, eventLength, movesLength, headsLength}
 use Rattle.sheet.proofs.Parts.{length-move, length-head}
-use Rattle.sheet.proofs.Moving.{name-at, length-name, moves-skip, moves-add}
+use Rattle.rows.proofs.Names.{name-at, length-name}
+use Rattle.sheet.proofs.Moving.{moves-skip, moves-add}
 use Rattle.sheet.proofs.Lining.{linesTo, lineOf, lines-more, length-line, length-sheet}
 
 -- what a machine's test says

@@ -9,11 +9,12 @@ use lib.Seq.{sets}
 use Rattle.model.specs.Bytes.{bytes, digits}
 use Rattle.model.specs.Sheet.{writtenLine}
 use Rattle.model.proofs.ListLaws.{flatMap-append}
-use Rattle.reader.specs.declared.Tables.{Tables}
-use Rattle.reader.specs.Told.{entry}
+use Rattle.rows.specs.declared.Tables.{Tables}
+use Rattle.rows.specs.Told.{entry}
 use Rattle.writers.specs.Written.{Writes}
 use Rattle.writers.proofs.Writing.{within, writes-length}
-use Rattle.sheet.specs.Written.{headBytes, rowLine, rowLines, movesBytes, rowNames, rowSheet}
+use Rattle.sheet.specs.Written.{headBytes, rowLine, rowLines, movesBytes, rowSheet}
+use Rattle.rows.specs.Names.{rowNames}
 use Rattle.sheet.specs.Within.{WritesWithin}
 use Rattle.sheet.proofs.Within.{within-none, within-exact, within-append, within-end, Room}
 
@@ -27,11 +28,11 @@ length-title n = omega (arith, length-append (bytes "(accepted ") (digits n ++ b
 
 -- what stands before the moves of machine k
 abbrev pub headOf : Tables → ℕ → List ℕ
-headOf p k = headBytes k (entry (p .sizes) k) (entry (p .place) (k * 256 + p .initial))
+headOf p k = headBytes k (entry (p .sizes) k) (entry (p .place) (k * 256 + p .counts .initial))
 
 module _ (s : List ℕ) (p : Tables) (pre post : List ℕ) where
   abbrev pub movesOf : ℕ → List ℕ
-  movesOf k = movesBytes (rowNames s p) pre post k (p .events)
+  movesOf k = movesBytes (rowNames s p) pre post k (p .counts .events)
 
   abbrev pub lineOf : ℕ → List ℕ
   lineOf k = headOf p k ++ (movesOf k ++ bytes ")\n")
@@ -54,36 +55,36 @@ module _ (s : List ℕ) (p : Tables) (pre post : List ℕ) where
   pub length-line : (k : ℕ) → length (lineOf k) ≡ length (headOf p k) + length (movesOf k) + 2
   length-line k = omega (arith, length-append (headOf p k) (movesOf k ++ bytes ")\n"), length-append (movesOf k) (bytes ")\n"))
 
-  sheet-is : rowSheet s p pre post ≡ title (p .machines) ++ linesTo (p .machines)
+  sheet-is : rowSheet s p pre post ≡ title (p .counts .machines) ++ linesTo (p .counts .machines)
   unfolding rowSheet title linesTo
   sheet-is = simp append-assoc
 
   lines-within : (n m : ℕ) → n ≤ m → length (linesTo n) ≤ length (linesTo m)
   lines-within = within linesTo (λ n. rw (lines-more n) (simp length-append (omega arith)))
 
-  pub length-sheet : length (rowSheet s p pre post) ≡ 12 + length (digits (p .machines)) + length (linesTo (p .machines))
-  length-sheet = rw (sheet-is) (omega (arith, length-append (title (p .machines)) (linesTo (p .machines)), length-title (p .machines)))
+  pub length-sheet : length (rowSheet s p pre post) ≡ 12 + length (digits (p .counts .machines)) + length (linesTo (p .counts .machines))
+  length-sheet = rw (sheet-is) (omega (arith, length-append (title (p .counts .machines)) (linesTo (p .counts .machines)), length-title (p .counts .machines)))
 
-  pub title-within : 12 + length (digits (p .machines)) ≤ length (rowSheet s p pre post)
+  pub title-within : 12 + length (digits (p .counts .machines)) ≤ length (rowSheet s p pre post)
   title-within = omega (arith, length-sheet)
 
 -- after the first line, n lines are written into a buffer of which the first `size` bytes are for the sheet
 pub record Lined (s : List ℕ) (p : Tables) (pre post : List ℕ) (at size : ℕ) (out left : List ℕ) (i n : ℕ) : Type 0 where
-  pub most : n ≤ p .machines
+  pub most : n ≤ p .counts .machines
   pub written : WritesWithin (linesTo s p pre post n) at size out i left
 
 pub lined-none : {s : List ℕ} {p : Tables} {pre post out : List ℕ} {at size : ℕ} → Lined s p pre post at size out out at 0
 unfolding linesTo rowLines flatMap
 lined-none = record { most = omega arith; written = within-none }
 
-pub lined-add : {s : List ℕ} {p : Tables} {pre post out left after : List ℕ} {at size i j n : ℕ} → Lined s p pre post at size out left i n → n < p .machines
+pub lined-add : {s : List ℕ} {p : Tables} {pre post out left after : List ℕ} {at size i j n : ℕ} → Lined s p pre post at size out left i n → n < p .counts .machines
     → WritesWithin (lineOf s p pre post n) i size left j after → Lined s p pre post at size out after j (n + 1)
 lined-add {s} {p} {pre} {post} {n = n} t l w = record { most = omega arith; written = rw (lines-more s p pre post n) (within-append (t .written) w) }
 
 module _ (s : List ℕ) (p : Tables) (pre post : List ℕ) {at size : ℕ} {all out : List ℕ} (q : size ≡ length (rowSheet s p pre post)) (fits : size ≤ length all)
-    (first : Writes (title (p .machines)) 0 all at out) where
+    (first : Writes (title (p .counts .machines)) 0 all at out) where
   -- one line more: where the sheet has room, so has the line
-  module _ {left : List ℕ} {i n : ℕ} (t : Lined s p pre post at size out left i n) (l : n < p .machines) where
+  module _ {left : List ℕ} {i n : ℕ} (t : Lined s p pre post at size out left i n) (l : n < p .counts .machines) where
     pub line-room : Room i size left (headOf p n) (movesOf s p pre post n) (bytes ")\n")
     line-room =
         record {
@@ -91,9 +92,9 @@ module _ (s : List ℕ) (p : Tables) (pre post : List ℕ) {at size : ℕ} {all 
             arith,
             first .after,
             t .written .after,
-            length-title (p .machines),
+            length-title (p .counts .machines),
             length-sheet s p pre post,
-            lines-within s p pre post (n + 1) (p .machines) (omega arith),
+            lines-within s p pre post (n + 1) (p .counts .machines) (omega arith),
             ap length (lines-more s p pre post n),
             length-append (linesTo s p pre post n) (lineOf s p pre post n),
           );
@@ -101,10 +102,10 @@ module _ (s : List ℕ) (p : Tables) (pre post : List ℕ) {at size : ℕ} {all 
         }
 
   -- all of it
-  pub lined-end : {left : List ℕ} {i n : ℕ} → Lined s p pre post at size out left i n → p .machines ≤ n → left ≡ sets all 0 (rowSheet s p pre post)
+  pub lined-end : {left : List ℕ} {i n : ℕ} → Lined s p pre post at size out left i n → p .counts .machines ≤ n → left ≡ sets all 0 (rowSheet s p pre post)
   lined-end {left} {i} {n} t h =
-      let z : n ≡ p .machines = omega (arith, t .most) in
-      let k : 0 + length (title (p .machines)) ≤ size = omega (arith, length-sheet s p pre post, length-title (p .machines)) in
+      let z : n ≡ p .counts .machines = omega (arith, t .most) in
+      let k : 0 + length (title (p .counts .machines)) ≤ size = omega (arith, length-sheet s p pre post, length-title (p .counts .machines)) in
       let w = within-append (within-exact first (omega arith) k) (rw z at (t .written)) in
       let v = rw (← sheet-is s p pre post) at w in
       let e : i ≡ size = omega (arith, v .after) in

@@ -1,60 +1,26 @@
 -- The moves on a machine: event by event, how long they are and how they are written.
-use Prim.Native.Nat.{ℕ, zero, suc, _+_, _-_, _*_, _≤_, _<_}
+use Prim.Native.Nat.{ℕ, _+_, _-_, _*_, _≤_, _<_}
 use native.Mathlib.Numerals.{add-one}
 use native.Mathlib.Omega.{arith}
-use mathlib.Core.Path.{_≡_, refl, ap, _∙_}
+use mathlib.Core.Path.{_≡_, ap, _∙_}
 use mathlib.Core.Logic.{_⊎_, inl, inr}
-use mathlib.Core.List.{List, [], _∷_, _++_, flatMap, append-nil}
+use mathlib.Core.List.{List, [], _++_, flatMap, append-nil}
 use mathlib.Core.Option.{Option, none, some}
 use lib.Dec.{ltb, lt→ltb}
-use lib.ListN.{length, getD, take, drop, length-append, length-drop, List·getD-append}
-use lib.Seq.{getD-at, length-take-le}
+use lib.ListN.{length, getD, length-append}
 use Rattle.model.specs.Bytes.{Name}
 use Rattle.model.specs.Product.{Move}
 use Rattle.model.specs.Sheet.{addMove, moveBytes, writtenMove}
-use Rattle.model.proofs.Laws.{cond-true, cond-false, not-below, below-suc, order}
+use Rattle.model.proofs.Laws.{cond-true, cond-false, not-below, order}
 use Rattle.model.proofs.ListLaws.{flatMap-append}
-use Rattle.reader.specs.Told.{entry}
-use Rattle.reader.specs.Bounded.{NamesInside}
+use Rattle.rows.specs.Told.{entry}
+use Rattle.rows.proofs.Names.{nameIn, name-at}
 use Rattle.regions.specs.Moves.{moveAt}
 use Rattle.writers.proofs.Writing.{within}
-use Rattle.sheet.specs.Written.{namesIn, rowMoves, movesBytes}
+use Rattle.rows.specs.Names.{namesIn}
+use Rattle.sheet.specs.Written.{rowMoves, movesBytes}
 use Rattle.sheet.specs.Within.{WritesWithin}
 use Rattle.sheet.proofs.Within.{within-none, within-append}
-
--- the names, by their places in the text
-module _ (s ats lens : List ℕ) where
-  abbrev pub nameIn : ℕ → Name
-  nameIn e = take (entry lens e) (drop (entry ats e) s)
-
-  -- the same, from its place to its end
-  abbrev pub cut : ℕ → Name
-  cut e = take (entry ats e + entry lens e - entry ats e) (drop (entry ats e) s)
-
-  pub cut-name : (e : ℕ) → cut e ≡ nameIn e
-  cut-name e = let z : entry ats e + entry lens e - entry ats e ≡ entry lens e = omega arith in rw z
-
-  pub length-names : (n : ℕ) → length (namesIn s ats lens n) ≡ n
-  unfolding namesIn
-  length-names zero = refl
-  length-names (suc n) = omega (arith, length-append (namesIn s ats lens n) (nameIn n ∷ []), length-names n)
-
-  pub name-at : (n e : ℕ) → e < n → getD (namesIn s ats lens n) e [] ≡ nameIn e
-  unfolding namesIn
-  name-at zero e h = absurd (omega arith)
-  name-at (suc n) e h = go (below-suc e n h) (name-at n e)
-    where
-      go : (e < n) ⊎ (e ≡ n) → (e < n → getD (namesIn s ats lens n) e [] ≡ nameIn e) → getD (namesIn s ats lens n ++ (nameIn n ∷ [])) e [] ≡ nameIn e
-      go (inl l) ih = List·getD-append (namesIn s ats lens n) (nameIn n ∷ []) [] e (omega (arith, length-names n)) ∙ ih l
-      go (inr q) ih = rw q (getD-at (namesIn s ats lens n) (nameIn n) [] [] n (length-names n))
-
-  pub name-inside : {n : ℕ} → NamesInside s ats lens n → (e : ℕ) → e < n → entry ats e + entry lens e ≤ length s
-  unfolding NamesInside
-  name-inside h = h
-
-  pub length-name : (n e : ℕ) → NamesInside s ats lens n → e < n → length (nameIn e) ≡ entry lens e
-  unfolding NamesInside
-  length-name n e h l = length-take-le (entry lens e) (drop (entry ats e) s) (omega (arith, h e l, length-drop (entry ats e) s))
 
 -- one event more
 module _ (pre post : List ℕ) (k n : ℕ) where

@@ -2,7 +2,7 @@
 use Prim.Native.Nat.{ℕ, zero, suc, _+_, _*_, _<_, _≤_}
 use native.Mathlib.Omega.{arith}
 use mathlib.Core.Path.{_≡_, refl, ap, _∙_}
-use mathlib.Core.List.{List, [], _++_}
+use mathlib.Core.List.{List, _++_}
 use mathlib.Core.Option.{none}
 use lib.ListN.{length, take, drop}
 use lib.Seq.{sets, sets-eq, take-suc, take-length}
@@ -13,15 +13,16 @@ use Rattle.model.specs.Text.{Input, system, Limits}
 use Rattle.model.specs.Sheet.{movesBelow, sheetLine, sheetLines, sheet}
 use Rattle.model.proofs.Positions.{below-at, at-value}
 use Rattle.model.proofs.Sheets.{at-lines, lines-length}
-use Rattle.reader.specs.declared.Counts.{Counts}
-use Rattle.reader.specs.declared.Tables.{Tables}
-use Rattle.reader.specs.Tables.{tablesIn}
-use Rattle.reader.specs.Bounded.{Bounded}
-use Rattle.reader.specs.Told.{entry, nameOf, Told}
-use Rattle.reader.proofs.Telling.{told-place, told-events, told-initial}
+use Rattle.rows.specs.declared.Counts.{Counts}
+use Rattle.rows.specs.declared.Tables.{Tables}
+use Rattle.rows.specs.Tables.{tablesIn}
+use Rattle.rows.specs.Bounded.{Bounded}
+use Rattle.rows.specs.Told.{entry, Told}
+use Rattle.rows.proofs.Telling.{told-place, told-events, told-initial}
 use Rattle.regions.specs.Moves.{moveAt, MovesTold}
 use Rattle.sheet.specs.Rows.{SheetBounds}
-use Rattle.sheet.specs.Written.{namesIn, rowNames, rowMoves, rowLine, rowLines, rowSheet}
+use Rattle.rows.proofs.Names.{told-names}
+use Rattle.sheet.specs.Written.{rowMoves, rowLine, rowLines, rowSheet}
 
 -- the moves of one machine
 moves-told : (ts : TransitionSystem) (m : Machine) (pre post : List ℕ) (k n : ℕ) → ((e : ℕ) → e < n → moveAt pre post k e ≡ move ts m e)
@@ -30,19 +31,9 @@ unfolding rowMoves movesBelow
 moves-told ts m pre post k zero h = refl
 moves-told ts m pre post k (suc n) h = rw (h n (omega arith), moves-told ts m pre post k n (λ e l. h e (omega arith)))
 
--- the names that the rows have
-module _ (s : List ℕ) (v : Input) (p : Tables) (told : Told s v p) where
-  names-told : (n : ℕ) → n ≤ length (v .names) → namesIn s (p .«name_at») (p .«name_len») n ≡ take n (v .names)
-  unfolding namesIn nameOf
-  names-told zero h = refl
-  names-told (suc n) h = rw (take-suc (v .names) n [] h, names-told n (omega arith), told .name n h)
-
-  pub told-names : rowNames s p ≡ v .names
-  told-names = rw (told-events told, names-told (length (v .names)) (omega arith), take-length (v .names))
-
 module _ (s : List ℕ) (v : Input) (p : Tables) (pre post : List ℕ) (told : Told s v p) (moves : MovesTold (system v) (v .machines) pre post)
     (passes : machinesRefusal (system v) 0 (v .machines) ≡ none) (l : Limits v) where
-  start-told : (k : ℕ) (m : Machine) → At (v .machines) k m → entry (p .place) (k * 256 + p .initial) ≡ placeOf m (v .initial)
+  start-told : (k : ℕ) (m : Machine) → At (v .machines) k m → entry (p .place) (k * 256 + p .counts .initial) ≡ placeOf m (v .initial)
   start-told k m a =
       rw (told-initial told)
       (told-place (told .tells-machines) passes (l .states-most) k (v .initial) m a (omega (arith, l .initial, l .states-least)))
@@ -70,7 +61,7 @@ module _ (s : List ℕ) (v : Input) (p : Tables) (pre post : List ℕ) (told : T
       let z : 0 + n ≡ n = omega arith in
       rw (take-suc ls n x low, at-value ls n x x b, lines-told n (omega arith), line-told n m a, ← at-lines (system v) ms 0 n m x a b, z)
 
-  all-lines : rowLines p pre post (p .machines) ≡ sheetLines (system v) 0 (v .machines)
+  all-lines : rowLines p pre post (p .counts .machines) ≡ sheetLines (system v) 0 (v .machines)
   all-lines =
       let ls = sheetLines (system v) 0 (v .machines) in
       ap (rowLines p pre post) (told .tells-machines .counted)

@@ -5,7 +5,7 @@ use mathlib.Core.List.{List}
 use lib.Dec.{ltb}
 use lib.ListN.{length}
 use Rattle.model.specs.Bytes.{digits}
-use Rattle.reader.specs.Told.{entry}
+use Rattle.rows.specs.Told.{entry}
 
 abbrev pub figuresAt : List ℕ → List ℕ → ℕ → ℕ
 figuresAt pre post i = length (digits (entry pre i)) + length (digits (entry post i))

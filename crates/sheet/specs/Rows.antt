@@ -4,11 +4,11 @@ use mathlib.Core.Path.{_≡_}
 use mathlib.Core.List.{List, []}
 use lib.ListN.{length}
 use lib.Seq.{sets}
-use Rattle.reader.specs.declared.Counts.{Counts}
-use Rattle.reader.specs.declared.Tables.{Tables}
-use Rattle.reader.specs.Tables.{tablesIn}
-use Rattle.reader.specs.Told.{entry}
-use Rattle.reader.specs.Bounded.{NamesInside}
+use Rattle.rows.specs.declared.Counts.{Counts}
+use Rattle.rows.specs.declared.Tables.{Tables}
+use Rattle.rows.specs.Tables.{tablesIn}
+use Rattle.rows.specs.Told.{entry}
+use Rattle.rows.specs.Bounded.{NamesInside}
 use Rattle.sheet.specs.Written.{rowSheet}
 
 -- of the bounds of `Bounded` those that a sheet needs, and the sizes of the rows

@@ -27,7 +27,7 @@ use printing::print_name;
 use printing::print_run;
 use printing::print_steps;
 use printing::print_thin;
-use reader::narrow;
+use rows::narrow;
 
 // The most events that are taken; Linux by default hands over fewer.
 const MAX_GIVEN: usize = 262144;

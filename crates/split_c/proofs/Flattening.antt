@@ -9,8 +9,8 @@ use Rattle.model.specs.Cases.{tabled}
 use Rattle.model.specs.Refusal.{Refusal, Checked, refused, passed, refusalOf}
 use Rattle.model.specs.Services as Services
 use Rattle.model.specs.Services.{Part, name, handedBack, nameRefusal, refusedBy}
-use Rattle.reader.specs.declared.Verdict.the-variants as C
-use Rattle.reader.specs.Tables.{verdictRefusal}
+use Rattle.rows.specs.declared.Verdict.the-variants as C
+use Rattle.rows.specs.Tables.{verdictRefusal}
 use Rattle.product.specs.declared.Outcome.{Outcome}
 use Rattle.product.specs.declared.Outcome.the-variants as O
 use Rattle.product.specs.declared.RunAnswer.{RunAnswer}

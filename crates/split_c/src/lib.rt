@@ -10,7 +10,7 @@ ghost use Rattle.split_c.specs.Flat.{flatAnswer, flatPart, flatOutcome, 
 use model::Transition;
 use naming::find_name;
 use product::Outcome;
-use reader::Verdict;
+use rows::Verdict;
 use splitter::Answer;
 use splitter::Thinned;
 use splitter::check;

@@ -1,33 +1,15 @@
 -- The checks as far as 7, 10 and 12 in the model's words, by what the code finds out on its way: whether the text is read, and what 4 to 12 say of its value.
 use Prim.Native.Nat.{ℕ}
-use mathlib.Core.Path.{_≡_, refl, ap, sym, _∙_}
+use mathlib.Core.Path.{_≡_, refl}
 use mathlib.Core.List.{List}
-use mathlib.Core.Option.{Option, none, some, Option·some-ne-none, Option·some-injective, orElse}
-use Rattle.model.specs.declared.Refusal as D
-use Rattle.model.specs.Cases.{tabled}
-use Rattle.model.specs.Refusal.{Refusal, Checked, refused, passed, unless, refusalOf, _>>=_, _>>_}
+use mathlib.Core.Option.{Option, none, some, orElse}
+use Rattle.model.specs.Refusal.{Refusal, passed, unless, refusalOf, _>>=_, _>>_}
 use Rattle.model.specs.TransitionSystem.{systemRefusal}
 use Rattle.model.specs.Machine.{machinesRefusal, coverRefusal}
 use Rattle.model.specs.Text.{Input, system, read}
 use Rattle.model.specs.Services.{asFarAs7, asFarAs10, asFarAs12}
-use Rattle.reader.specs.declared.Verdict.{Verdict}
-use Rattle.reader.specs.declared.Verdict.the-variants.{Refused}
-use Rattle.reader.specs.Tables.{verdictRefusal}
-use Rattle.checker.specs.Order.{refusalTo10}
-
--- what passed, if nothing is refused
-pub was-passed : {A : Type 0} (c : Checked A) → refusalOf c ≡ none → (a : A) × (c ≡ passed a)
-was-passed (refused r) e = absurd (Option·some-ne-none r e)
-was-passed (passed a) e = (a, refl)
-
-was-refused : {A : Type 0} (c : Checked A) (r : Refusal) → refusalOf c ≡ some r → c ≡ refused r
-was-refused (refused q) r e = ap refused (Option·some-injective q r e)
-was-refused (passed a) r e = absurd (Option·some-ne-none r (sym e))
-
--- what a verdict refuses is refused
-pub refused-as : {A : Type 0} {c : Checked A} {r : Verdict} {why : D.Refusal} → verdictRefusal r ≡ refusalOf c → r ≡ Refused why → c ≡ refused (tabled why)
-unfolding verdictRefusal
-refused-as {c = c} h e = was-refused c _ (sym h ∙ ap verdictRefusal e)
+use Rattle.rows.proofs.Verdicts.{was-refused}
+use Rattle.stages.specs.Order.{refusalTo10}
 
 -- two checks, one after the other, are one
 joined : (v : Input) (a : Option Refusal) (f : Input → Option Refusal)

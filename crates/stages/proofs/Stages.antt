@@ -14,42 +14,31 @@ use Rattle.model.specs.Machine.{Decomposition, machinesRefusal, coverRefusal}
 use Rattle.model.specs.Text.{Input, system, read}
 use Rattle.model.specs.Services.{asFarAs7, asFarAs10, asFarAs12}
 use Rattle.model.proofs.Laws.{orElse-none}
-use Rattle.reader.specs.declared.Verdict.{Verdict}
-use Rattle.reader.specs.declared.Verdict.the-variants.{Refused, Passed}
-use Rattle.reader.specs.declared.Tables.{Tables}
-use Rattle.reader.specs.Tables.{verdictRefusal, tablesOf, tablesIn}
-use Rattle.reader.specs.declared.Counts.{Counts}
-use Rattle.reader.specs.Told.{systemOf, MachinesTold, Told}
+use Rattle.rows.specs.declared.Verdict.{Verdict}
+use Rattle.rows.specs.declared.Verdict.the-variants.{Refused, Passed}
+use Rattle.rows.specs.declared.Tables.{Tables}
+use Rattle.rows.specs.Tables.{verdictRefusal, tablesOf, tablesIn}
+use Rattle.rows.specs.declared.Counts.{Counts}
+use Rattle.rows.specs.Told.{systemOf, MachinesTold}
 use Rattle.reader.specs.Lent.{FreshRows, ReadsRows}
-use Rattle.reader.specs.Bounded.{Bounded}
-use Rattle.reader.proofs.Bounds.{bounded, names-inside}
-use Rattle.reader.proofs.Fronts.{front-length}
-use Rattle.reader.proofs.Telling.{told-transitions}
+use Rattle.rows.specs.Bounded.{Bounded, Sized, NamesInside}
+use Rattle.rows.proofs.Bounds.{bounded, names-inside}
+use Rattle.rows.proofs.Fronts.{front-length}
+use Rattle.rows.proofs.Telling.{told-transitions}
 use Rattle.transition_system.specs.Sets.{systemRows}
 use Rattle.regions.specs.Regions.{rowsOf, RowLengths}
 use Rattle.closure.specs.Covers.{CountsBounded, CoverTold, CoverJudged}
-use Rattle.checker.specs.Order.{refusalTo10, CheckedTo10}
-use Rattle.checker.proofs.Verdicts.{refuses, lets-pass, no-excitations}
-use Rattle.lines.specs.Rows.{row}
-use Rattle.stages.specs.Stages.{Held, Sized, ReadAsFarAs7, RowsAsFarAs7, Fresh, Past10, ReadAsFarAs10, Judged, ReadAsFarAs12}
-use Rattle.stages.proofs.Checking.{was-passed, refused-as, unread-7, refusal-7, passed-7, unread-10, refusal-10, passed-10, refused-12, refusal-12, passed-12}
-
--- ---- what the reader answers
-
-pub held : (s : List ℕ) (r : Verdict) (p : Tables) → verdictRefusal r ≡ refusalOf (read s) → r ≡ Passed → p ≡ tablesOf (read s)
-    → ((v : Input) → read s ≡ passed v → Told s v p) → Held (read s) s p
-held s r p h e q told =
-    let (v, reads) = was-passed (read s) (sym h ∙ lets-pass e) in
-    record { value = v; passes = reads; told = told v reads; bounds = rw q (bounded s v reads); names = rw q (names-inside s v reads) }
+use Rattle.stages.specs.Order.{refusalTo10, CheckedTo10}
+use Rattle.rows.specs.Rows.{row}
+use Rattle.stages.specs.Stages.{Held, ReadAsFarAs7, Fresh, Past10, ReadAsFarAs10, Judged, ReadAsFarAs12}
+use Rattle.rows.proofs.Verdicts.{refuses, lets-pass, was-passed, refused-as}
+use Rattle.stages.proofs.Order.{no-excitations}
+use Rattle.stages.proofs.Checking.{unread-7, refusal-7, passed-7, unread-10, refusal-10, passed-10, refused-12, refusal-12, passed-12}
 
 -- ---- what the checks ask of the rows
 
--- the counts of the rows
-abbrev pub countsOf : Tables → Counts
-countsOf p = record { states = p .states; initial = p .initial; events = p .events; transitions = p .transitions; machines = p .machines }
-
 -- names and sizes are of no account to the checks
-pub rows-bounded : {p : Tables} → Bounded p → Bounded (rowsOf (countsOf p) (p .source) (p .event) (p .target) (p .duplicate) (p .place))
+pub rows-bounded : {p : Tables} → Bounded p → Bounded (rowsOf (p .counts) (p .source) (p .event) (p .target) (p .duplicate) (p .place))
 rows-bounded b =
     record {
       states = b .states;
@@ -69,7 +58,7 @@ length-row : (n x : ℕ) (xs : List ℕ) → length (row n x xs) ≡ n
 unfolding row
 length-row n x xs = length-sets {A = ℕ} (replicate n x) 0 xs ∙ length-replicate {A = ℕ} n x
 
-filled-sized : (v : Input) → Sized (tablesOf (passed v))
+filled-sized : (v : Input) → Sized (tablesOf v)
 unfolding tablesOf
 filled-sized v =
     record {
@@ -90,10 +79,17 @@ row-lengths z = record { sources = z .sources; events = z .events; targets = z .
 module _ {s : List ℕ} {r : Verdict} {c : Counts} {ats lens sources events targets sizes duplicates places : List ℕ} (h : verdictRefusal r ≡ refusalOf (read s)) (e : r ≡ Passed)
     (t : ReadsRows s c ats lens sources events targets sizes duplicates places) where
   pub rows-held : Held (read s) s (tablesIn c ats lens sources events targets sizes duplicates places)
-  rows-held = let (v, reads) = was-passed (read s) (sym h ∙ lets-pass e) in held s r _ h e (t .tables v reads ∙ ap tablesOf (sym reads)) (t .told)
-
-  pub rows-sized : Sized (tablesIn c ats lens sources events targets sizes duplicates places)
-  rows-sized = let (v, reads) = was-passed (read s) (sym h ∙ lets-pass e) in subst Sized (sym (t .tables v reads)) (filled-sized v)
+  rows-held =
+      let (v, reads) = was-passed (read s) (sym h ∙ lets-pass e) in
+      let q = t .tables v reads in
+      record {
+        value = v;
+        passes = reads;
+        told = t .told v reads;
+        bounds = subst Bounded (sym q) (bounded s v reads);
+        sized = subst Sized (sym q) (filled-sized v);
+        names = subst (λ (p : Tables). NamesInside s (p .«name_at») (p .«name_len») (p .counts .events)) (sym q) (names-inside s v reads);
+      }
 
 -- ---- what 4 to 7 answer
 
@@ -107,20 +103,15 @@ refused-to-3 {s} {why = why} h e =
 module _ {s : List ℕ} {p : Tables} (h : Held (read s) s p) where
   -- what is read and passes 4 to 7 is held as far as 7
   held-7 : systemRefusal (system (h .value)) ≡ none → Held (asFarAs7 s) s p
-  held-7 n = record { value = h .value; passes = passed-7 s (h .value) (h .passes) n; told = h .told; bounds = h .bounds; names = h .names }
+  held-7 n = record { value = h .value; passes = passed-7 s (h .value) (h .passes) n; told = h .told; bounds = h .bounds; sized = h .sized; names = h .names }
 
   -- the verdict on the rows' transition system is that on the text
-  pub judged-7 : (r : Verdict) → verdictRefusal r ≡ systemRefusal (systemOf (systemRows (countsOf p) (p .source) (p .event) (p .target)))
+  pub judged-7 : (r : Verdict) → verdictRefusal r ≡ systemRefusal (systemOf (systemRows (p .counts) (p .source) (p .event) (p .target)))
       → ReadAsFarAs7 s r p
   unfolding systemOf
   judged-7 r e =
       let q : verdictRefusal r ≡ systemRefusal (system (h .value)) = e ∙ ap systemRefusal (h .told .tells-system) in
       record { verdict = q ∙ sym (refusal-7 s (h .value) (h .passes)); held = λ n. held-7 (sym q ∙ n) }
-
--- the same of rows that are lent
-pub rows-to-3 : {s : List ℕ} {r : Verdict} {p : Tables} {why : D.Refusal} → verdictRefusal r ≡ refusalOf (read s) → r ≡ Refused why → RowsAsFarAs7 s r p
-unfolding verdictRefusal
-rows-to-3 {why = why} h e = record { reading = refused-to-3 h e; sized = λ n. refuses why (sym (ap verdictRefusal e) ∙ n) }
 
 -- ---- what 4 to 10 answer
 
@@ -161,15 +152,14 @@ module _ {s : List ℕ} {p : Tables} (h : Held (read s) s p) where
   machines-told = subst (λ (t : TransitionSystem). MachinesTold t p machines) (sym same) (h .told .tells-machines)
 
   -- the verdict on what the rows tell is that on the text
-  pub judged-10 : (r : Verdict) {pre post excited : List ℕ} → Sized p → CheckedTo10 p pre post excited r → ReadAsFarAs10 s r p pre post excited
-  judged-10 r {pre} {post} {excited} sized t =
+  pub judged-10 : (r : Verdict) {pre post excited : List ℕ} → CheckedTo10 p pre post excited r → ReadAsFarAs10 s r p pre post excited
+  judged-10 r {pre} {post} {excited} t =
       let q = t .refusal machines machines-told ∙ ap (λ (t : TransitionSystem). refusalTo10 t machines) same in
       record {
         verdict = q ∙ sym (refusal-10 s (h .value) (h .passes));
         past = λ n.
             record {
               held = h;
-              sized = sized;
               passes = sym q ∙ n;
               cover = subst (λ (t : TransitionSystem). CoverTold t machines pre post (p .place) excited) same (t .rows machines machines-told n);
             };
@@ -202,10 +192,10 @@ module _ {s : List ℕ} {p : Tables} {pre post excited : List ℕ} (k : Past10 s
   machines-pass = orElse-none _ _ (k .passes) .1
 
   -- what 11 and 12 ask for of the counts, and their verdict on the text
-  pub counts-bounded : CountsBounded (countsOf p)
+  pub counts-bounded : CountsBounded (p .counts)
   counts-bounded = let b = k .held .bounds in record { states = b .states; events = b .events; machines = b .machines }
 
-  pub cover-refusal : {r : Verdict} → CoverJudged (countsOf p) pre (p .place) excited r → verdictRefusal r ≡ coverRefusal (system value) (value .machines)
+  pub cover-refusal : {r : Verdict} → CoverJudged (p .counts) pre (p .place) excited r → verdictRefusal r ≡ coverRefusal (system value) (value .machines)
   unfolding systemOf
   cover-refusal j =
       let told = k .held .told in
@@ -219,7 +209,7 @@ module _ {s : List ℕ} {p : Tables} {pre post excited : List ℕ} (k : Past10 s
   unfolding verdictRefusal
   refused-cover why q = refused-as {r = Refused why} (sym q ∙ sym (refusal-12 s value past-10)) refl
 
-  pub judged-12 : (r : Verdict) → CoverJudged (countsOf p) pre (p .place) excited r → ReadAsFarAs12 s r p pre post excited
+  pub judged-12 : (r : Verdict) → CoverJudged (p .counts) pre (p .place) excited r → ReadAsFarAs12 s r p pre post excited
   judged-12 r j =
       record {
         verdict = cover-refusal j ∙ sym (refusal-12 s value past-10);
@@ -237,5 +227,5 @@ pub past-12 : {s : List ℕ} {p : Tables} {pre post excited : List ℕ} (j : Jud
 past-12 j = covered-12 (j .past) (j .covered)
 
 -- the rows count the value's transitions
-pub counted : {s : List ℕ} {p : Tables} (h : Held (asFarAs7 s) s p) → p .transitions ≡ length (h .value .transitions)
-counted {p = p} h = sym (front-length (p .source) (p .event) (p .target) (p .transitions)) ∙ ap length (told-transitions (h .told))
+pub counted : {s : List ℕ} {p : Tables} (h : Held (asFarAs7 s) s p) → p .counts .transitions ≡ length (h .value .transitions)
+counted {p = p} h = sym (front-length (p .source) (p .event) (p .target) (p .counts .transitions)) ∙ ap length (told-transitions (h .told))

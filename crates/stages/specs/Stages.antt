@@ -3,20 +3,19 @@ use Prim.Native.Nat.{ℕ}
 use mathlib.Core.Path.{_≡_}
 use mathlib.Core.List.{List, []}
 use mathlib.Core.Option.{none}
-use lib.ListN.{length}
 use Rattle.model.specs.Refusal.{Checked, passed, refusalOf}
 use Rattle.model.specs.Text.{Input, system, read}
 use Rattle.model.specs.Machine.{coverRefusal}
 use Rattle.model.specs.Services.{asFarAs7, asFarAs10, asFarAs12}
-use Rattle.reader.specs.declared.Tables.{Tables}
-use Rattle.reader.specs.declared.Verdict.{Verdict}
-use Rattle.reader.specs.Tables.{verdictRefusal}
-use Rattle.reader.specs.Told.{Told}
-use Rattle.reader.specs.Bounded.{Bounded, NamesInside}
+use Rattle.rows.specs.declared.Tables.{Tables}
+use Rattle.rows.specs.declared.Verdict.{Verdict}
+use Rattle.rows.specs.Tables.{verdictRefusal}
+use Rattle.rows.specs.Told.{Told}
+use Rattle.rows.specs.Bounded.{Bounded, Sized, NamesInside}
 use Rattle.transition_system.specs.Sets.{Excitations}
 use Rattle.regions.specs.Moves.{MoveRows}
 use Rattle.closure.specs.Covers.{CoverTold}
-use Rattle.checker.specs.Order.{refusalTo10}
+use Rattle.stages.specs.Order.{refusalTo10}
 
 -- the text has passed this check, and the rows hold its value
 pub record Held (checked : Checked Input) (s : List ℕ) (p : Tables) : Type 0 where
@@ -24,28 +23,13 @@ pub record Held (checked : Checked Input) (s : List ℕ) (p : Tables) : Type 0 w
   pub passes : checked ≡ passed value
   pub told : Told s value p
   pub bounds : Bounded p
-  pub names : NamesInside s (p .«name_at») (p .«name_len») (p .events)
-
--- the rows have their full sizes
-pub record Sized (p : Tables) : Type 0 where
-  pub name-places : length (p .«name_at») ≡ 64
-  pub name-lengths : length (p .«name_len») ≡ 64
-  pub sources : length (p .source) ≡ 1024
-  pub events : length (p .event) ≡ 1024
-  pub targets : length (p .target) ≡ 1024
-  pub place-counts : length (p .sizes) ≡ 16
-  pub duplicates : length (p .duplicate) ≡ 16
-  pub places : length (p .place) ≡ 4096
+  pub sized : Sized p
+  pub names : NamesInside s (p .«name_at») (p .«name_len») (p .counts .events)
 
 -- the verdict is that of the check as far as 7; if the text passes, the rows hold its value
 pub record ReadAsFarAs7 (s : List ℕ) (r : Verdict) (p : Tables) : Type 0 where
   pub verdict : verdictRefusal r ≡ refusalOf (asFarAs7 s)
   pub held : verdictRefusal r ≡ none → Held (asFarAs7 s) s p
-
--- the same of rows that are lent
-pub record RowsAsFarAs7 (s : List ℕ) (r : Verdict) (p : Tables) : Type 0 where
-  pub reading : ReadAsFarAs7 s r p
-  pub sized : verdictRefusal r ≡ none → Sized p
 
 -- the rows of moves and excitation sets that are lent for the check as far as 10: of their full size, with no state in any set
 pub record Fresh (pre post excited : List ℕ) : Type 0 where
@@ -55,7 +39,6 @@ pub record Fresh (pre post excited : List ℕ) : Type 0 where
 -- the text is read, its value is past 10, and the rows tell the moves and places of its machines and the excitation sets
 pub record Past10 (s : List ℕ) (p : Tables) (pre post excited : List ℕ) : Type 0 where
   pub held : Held (read s) s p
-  pub sized : Sized p
   pub passes : refusalTo10 (system (held .value)) (held .value .machines) ≡ none
   pub cover : CoverTold (system (held .value)) (held .value .machines) pre post (p .place) excited
 

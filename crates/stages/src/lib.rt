@@ -1,51 +1,56 @@
 // A text read and checked as far as a row of document 01's table: what a service begins with.
-ghost use Rattle.reader.specs.Tables.{tablesIn};
+ghost use mathlib.Core.Path.{_≡_};
+ghost use mathlib.Core.List.{[]};
+ghost use Rattle.rows.specs.Tables.{tablesIn};
+ghost use Rattle.rows.specs.Bounded.{Bounded};
 ghost use Rattle.reader.specs.Lent.{FreshRows};
-ghost use Rattle.stages.specs.Stages.{ReadAsFarAs7, RowsAsFarAs7, Fresh, ReadAsFarAs10, ReadAsFarAs12};
-use checker::check_as_far_as_10;
+ghost use Rattle.transition_system.specs.Sets.{Excitations};
+ghost use Rattle.regions.specs.Moves.{MoveRows};
+ghost use Rattle.regions.specs.Regions.{rowsOf, RowLengths};
+ghost use Rattle.stages.specs.Order.{ChecksRows};
+ghost use Rattle.stages.specs.Stages.{ReadAsFarAs7, Fresh, ReadAsFarAs10, ReadAsFarAs12};
 use closure::check_cover;
 use model::MAX_EVENTS;
 use model::MAX_MACHINES;
 use model::MAX_TRANSITIONS;
-use reader::Counted;
-use reader::Counts;
-use reader::Reading;
-use reader::Verdict;
-use reader::read;
 use reader::read_rows;
+use regions::MOVES;
+use regions::NOT_ON;
+use regions::check_regions;
+use rows::Counted;
+use rows::Counts;
+use rows::NO_STATE;
+use rows::Tables;
+use rows::UNPLACED;
+use rows::Verdict;
 use transition_system::EXCITATION_WORDS;
 use transition_system::check_transition_system;
 
-// The text's rows, and its refusal as far as 7.
-pub fn read_as_far_as_7(text: &[u8]) -> Reading
-    ensures { λ r. ⌜ ReadAsFarAs7 (now (text .entry)) (r .verdict) (r .tables) ⌝ }
+// Refusals 4 to 10 of rows, in the fixed order. Passed, the rows have the moves and the excitation sets, for 11 and 12 and what comes after.
+fn check_as_far_as_10<'a>(
+    c: Counts,
+    source: &'a [u8],
+    event: &'a [u8],
+    target: &'a [u8],
+    duplicate: &[usize],
+    place: &[u8],
+    pre: &mut [u8],
+    post: &mut [u8],
+    excited: &mut [u64],
+) -> Verdict
+    requires { ⌜ Bounded (rowsOf c (now source) (now event) (now target) (now duplicate) (now place)) ⌝ }
+    requires { ⌜ RowLengths (now source) (now event) (now target) (now duplicate) (now place) × MoveRows (now pre) (now post) × Excitations [] (now excited) ⌝ }
+    ensures { λ r. ⌜ ChecksRows c (now (source .entry)) (now (event .entry)) (now (target .entry)) (now (duplicate .entry)) (now (place .entry)) (now (pre .exit)) (now (post .exit)) (now (excited .exit)) r ⌝ }
 {
-    let reading = read(text);
-    let form = reading.verdict;
-    if let Verdict::Refused(_) = form {
-        return reading;
+    let system = check_transition_system(c, source, event, target, excited);
+    if let Verdict::Refused(why) = system {
+        return Verdict::Refused(why);
     }
-    let tables = reading.tables;
-    let mut excited = [0u64; EXCITATION_WORDS];
-    let counts = Counts {
-        states: tables.states,
-        initial: tables.initial,
-        events: tables.events,
-        transitions: tables.transitions,
-        machines: tables.machines,
-    };
-    let verdict = check_transition_system(
-        counts,
-        &tables.source,
-        &tables.event,
-        &tables.target,
-        &mut excited,
-    );
-    Reading { verdict, tables }
+    check_regions(c, source, event, target, duplicate, place, pre, post)
 }
 
-// The same in rows that are lent.
-pub fn read_rows_as_far_as_7(
+// The text's refusal as far as 7. Passed, the rows have what it holds.
+pub fn read_as_far_as_7(
     text: &[u8],
     name_at: &mut [usize; MAX_EVENTS],
     name_len: &mut [usize; MAX_EVENTS],
@@ -57,7 +62,7 @@ pub fn read_rows_as_far_as_7(
     place: &mut [u8; 4096],
 ) -> Counted
     requires { ⌜ FreshRows (now «name_at») (now «name_len») (now source) (now event) (now target) (now sizes) (now duplicate) (now place) ⌝ }
-    ensures { λ r. ⌜ RowsAsFarAs7 (now (text .entry)) (r .verdict) (tablesIn (r .counts) (now («name_at» .exit)) (now («name_len» .exit)) (now (source .exit)) (now (event .exit)) (now (target .exit)) (now (sizes .exit)) (now (duplicate .exit)) (now (place .exit))) ⌝ }
+    ensures { λ r. ⌜ ReadAsFarAs7 (now (text .entry)) (r .verdict) (tablesIn (r .counts) (now («name_at» .exit)) (now («name_len» .exit)) (now (source .exit)) (now (event .exit)) (now (target .exit)) (now (sizes .exit)) (now (duplicate .exit)) (now (place .exit))) ⌝ }
 {
     let read = read_rows(
         text,
@@ -76,8 +81,11 @@ pub fn read_rows_as_far_as_7(
     }
     let counts = read.counts;
     let mut excited = [0u64; EXCITATION_WORDS];
-    let verdict = check_transition_system(counts, source, event, target, &mut excited);
-    Counted { verdict, counts }
+    let plan = check_transition_system(counts, source, event, target, &mut excited);
+    Counted {
+        verdict: plan,
+        counts,
+    }
 }
 
 // The text's refusal as far as 10. Passed, the rows have what it holds, its machines' moves and the excitation sets.
@@ -169,4 +177,133 @@ pub fn read_as_far_as_12(
     let counts = read.counts;
     let verdict = check_cover(counts, place, excited, pre);
     Counted { verdict, counts }
+}
+
+// A text checked as far as 7, and what it holds. Refused, what the tables have is left open.
+pub struct CheckedPlan {
+    pub verdict: Verdict,
+    pub tables: Tables,
+}
+
+// A text checked as far as 12, what it holds, its machines' moves and the excitation sets. Refused, what the rows have is left open.
+pub struct CheckedSplit {
+    pub verdict: Verdict,
+    pub tables: Tables,
+    pub pre: [u8; MOVES],
+    pub post: [u8; MOVES],
+    pub excited: [u64; EXCITATION_WORDS],
+}
+
+// Counts and rows as one value.
+fn tables(
+    counts: Counts,
+    name_at: [usize; MAX_EVENTS],
+    name_len: [usize; MAX_EVENTS],
+    source: [u8; MAX_TRANSITIONS],
+    event: [u8; MAX_TRANSITIONS],
+    target: [u8; MAX_TRANSITIONS],
+    sizes: [usize; MAX_MACHINES],
+    duplicate: [usize; MAX_MACHINES],
+    place: [u8; 4096],
+) -> Tables
+    ensures { λ r. ⌜ r ≡ tablesIn counts «name_at» «name_len» source event target sizes duplicate place ⌝ }
+{
+    Tables {
+        counts,
+        name_at,
+        name_len,
+        source,
+        event,
+        target,
+        sizes,
+        duplicate,
+        place,
+    }
+}
+
+// The same as one value, for a caller to whom a copy of the rows is cheap.
+pub fn check_plan(text: &[u8]) -> CheckedPlan
+    ensures { λ r. ⌜ ReadAsFarAs7 (now (text .entry)) (r .verdict) (r .tables) ⌝ }
+{
+    let mut name_at = [0usize; MAX_EVENTS];
+    let mut name_len = [0usize; MAX_EVENTS];
+    let mut source = [0u8; MAX_TRANSITIONS];
+    let mut event = [0u8; MAX_TRANSITIONS];
+    let mut target = [0u8; MAX_TRANSITIONS];
+    let mut sizes = [0usize; MAX_MACHINES];
+    let mut duplicate = [NO_STATE; MAX_MACHINES];
+    let mut place = [UNPLACED; 4096];
+    let read = read_as_far_as_7(
+        text,
+        &mut name_at,
+        &mut name_len,
+        &mut source,
+        &mut event,
+        &mut target,
+        &mut sizes,
+        &mut duplicate,
+        &mut place,
+    );
+    let verdict = read.verdict;
+    let tables = tables(
+        read.counts,
+        name_at,
+        name_len,
+        source,
+        event,
+        target,
+        sizes,
+        duplicate,
+        place,
+    );
+    CheckedPlan { verdict, tables }
+}
+
+pub fn check_split(text: &[u8]) -> CheckedSplit
+    ensures { λ r. ⌜ ReadAsFarAs12 (now (text .entry)) (r .verdict) (r .tables) (r .pre) (r .post) (r .excited) ⌝ }
+{
+    let mut name_at = [0usize; MAX_EVENTS];
+    let mut name_len = [0usize; MAX_EVENTS];
+    let mut source = [0u8; MAX_TRANSITIONS];
+    let mut event = [0u8; MAX_TRANSITIONS];
+    let mut target = [0u8; MAX_TRANSITIONS];
+    let mut sizes = [0usize; MAX_MACHINES];
+    let mut duplicate = [NO_STATE; MAX_MACHINES];
+    let mut place = [UNPLACED; 4096];
+    let mut pre = [NOT_ON; MOVES];
+    let mut post = [0u8; MOVES];
+    let mut excited = [0u64; EXCITATION_WORDS];
+    let read = read_as_far_as_12(
+        text,
+        &mut name_at,
+        &mut name_len,
+        &mut source,
+        &mut event,
+        &mut target,
+        &mut sizes,
+        &mut duplicate,
+        &mut place,
+        &mut pre,
+        &mut post,
+        &mut excited,
+    );
+    let verdict = read.verdict;
+    let tables = tables(
+        read.counts,
+        name_at,
+        name_len,
+        source,
+        event,
+        target,
+        sizes,
+        duplicate,
+        place,
+    );
+    CheckedSplit {
+        verdict,
+        tables,
+        pre,
+        post,
+        excited,
+    }
 }

@@ -10,19 +10,19 @@ use Rattle.model.specs.Cases.{tabled, recorded}
 use Rattle.model.specs.Refusal.{refused, passed, refusalOf}
 use Rattle.model.specs.TransitionSystem.{Transition}
 use Rattle.model.specs.Services.{asFarAs7, lend, steps}
-use Rattle.reader.specs.declared.Verdict.{Verdict}
-use Rattle.reader.specs.declared.Verdict.the-variants.{Refused}
-use Rattle.reader.specs.declared.Tables.{Tables}
-use Rattle.reader.specs.Tables.{verdictRefusal}
-use Rattle.reader.specs.Told.{firstTransitions}
-use Rattle.reader.proofs.Telling.{told-transitions}
+use Rattle.rows.specs.declared.Verdict.{Verdict}
+use Rattle.rows.specs.declared.Verdict.the-variants.{Refused}
+use Rattle.rows.specs.declared.Tables.{Tables}
+use Rattle.rows.specs.Tables.{verdictRefusal}
+use Rattle.rows.specs.Told.{firstTransitions}
+use Rattle.rows.proofs.Telling.{told-transitions}
 use Rattle.listing.specs.Records.{firstRecords}
 use Rattle.answers.specs.declared.Answer.the-variants as A
 use Rattle.answers.specs.Answers.{answered}
 use Rattle.stages.specs.Stages.{Held}
 use Rattle.steps_service.specs.Listing.{writtenBy, Lists}
 use Rattle.answers.proofs.Lending.{lent-all, lent-none}
-use Rattle.stages.proofs.Checking.{refused-as}
+use Rattle.rows.proofs.Verdicts.{refused-as}
 use Rattle.stages.proofs.Stages.{counted}
 
 -- refused by 1 to 7
@@ -69,11 +69,11 @@ module _ {s : List ℕ} {p : Tables} (h : Held (asFarAs7 s) s p) where
   lends out = rw (h .passes)
 
   -- refused by 13
-  pub lists-too-few : {room : ℕ} {numbers : List ℕ} → room < p .transitions → Lists s room numbers (A.Refused (BufferTooShort (p .transitions)))
+  pub lists-too-few : {room : ℕ} {numbers : List ℕ} → room < p .counts .transitions → Lists s room numbers (A.Refused (BufferTooShort (p .counts .transitions)))
   lists-too-few l = too-few _ lends (counted h) l
 
   -- the transitions fit
-  pub lists-all : {room : ℕ} {numbers : List ℕ} → p .transitions ≤ room → 3 * p .transitions ≤ length numbers
-      → map recorded (firstRecords numbers (p .transitions)) ≡ firstTransitions (p .source) (p .event) (p .target) (p .transitions)
-      → Lists s room numbers (A.Accepted (p .transitions))
+  pub lists-all : {room : ℕ} {numbers : List ℕ} → p .counts .transitions ≤ room → 3 * p .counts .transitions ≤ length numbers
+      → map recorded (firstRecords numbers (p .counts .transitions)) ≡ firstTransitions (p .source) (p .event) (p .target) (p .counts .transitions)
+      → Lists s room numbers (A.Accepted (p .counts .transitions))
   lists-all l i w = fitting _ lends (counted h) l i (w ∙ told-transitions (h .told))

@@ -7,8 +7,6 @@ ghost use Rattle.model.specs.Services as Services;
 ghost use Rattle.answers.specs.Answers.{answered};
 ghost use Rattle.steps_service.specs.Listing.{writtenBy, Lists};
 use answers::Answer;
-use lines::NO_STATE;
-use lines::UNPLACED;
 use listing::NUMBERS;
 use listing::fill;
 use listing::list_transitions;
@@ -17,8 +15,10 @@ use model::MAX_MACHINES;
 use model::MAX_TRANSITIONS;
 use model::Refusal;
 use model::Transition;
-use reader::Verdict;
-use stages::read_rows_as_far_as_7;
+use rows::NO_STATE;
+use rows::UNPLACED;
+use rows::Verdict;
+use stages::read_as_far_as_7;
 
 // What Steps answers where `room` records are lent, and the transitions' numbers if they fit.
 fn list(text: &[u8], room: usize, row: &mut [u8]) -> Answer
@@ -33,7 +33,7 @@ fn list(text: &[u8], room: usize, row: &mut [u8]) -> Answer
     let mut sizes = [0usize; MAX_MACHINES];
     let mut duplicate = [NO_STATE; MAX_MACHINES];
     let mut place = [UNPLACED; 4096];
-    let read = read_rows_as_far_as_7(
+    let read = read_as_far_as_7(
         text,
         &mut name_at,
         &mut name_len,

@@ -8,8 +8,8 @@ use Rattle.model.specs.Refusal.{refused}
 use Rattle.model.specs.Text.{system}
 use Rattle.model.specs.Services as Services
 use Rattle.model.specs.Services.{asFarAs12}
-use Rattle.reader.specs.declared.Tables.{Tables}
-use Rattle.reader.specs.Told.{systemOf}
+use Rattle.rows.specs.declared.Tables.{Tables}
+use Rattle.rows.specs.Told.{systemOf}
 use Rattle.model.specs.TransitionSystem.{TransitionSystem}
 use Rattle.irredundant.specs.declared.Kept.{Kept}
 use Rattle.irredundant.specs.declared.Reduction.{Reduction}
@@ -18,14 +18,14 @@ use Rattle.irredundant.specs.Kept.{ThinsTo, Thins}
 use Rattle.thin_service.specs.declared.Thinned.the-variants as T
 use Rattle.thin_service.specs.Answers.{thinned, numberedSet}
 use Rattle.stages.specs.Stages.{Past10}
-use Rattle.stages.proofs.Stages.{countsOf, covered-12, refused-cover}
+use Rattle.stages.proofs.Stages.{covered-12, refused-cover}
 
 pub thin-refused : (s : List ℕ) (why : D.Refusal) → asFarAs12 s ≡ refused (tabled why) → thinned (T.Refused why) ≡ numberedSet (Services.thin s)
 unfolding Services.thin thinned numberedSet
 thin-refused s why e = rw e
 
 module _ {s : List ℕ} {p : Tables} {pre post excited : List ℕ} (k : Past10 s p pre post excited) {r : Reduction}
-    (t : Thins (countsOf p) pre (p .place) excited r) where
+    (t : Thins (p .counts) pre (p .place) excited r) where
   -- what the rows say of 11 and 12 and of thinning is what the model says
   told : ThinsTo (system (k .held .value)) (k .held .value .machines) r
   unfolding systemOf

@@ -4,15 +4,15 @@ ghost use Rattle.model.specs.Services as Services;
 ghost use Rattle.thin_service.specs.Answers.{thinned, numberedSet};
 use irredundant::Reduction;
 use irredundant::remove_redundant;
-use lines::NO_STATE;
-use lines::UNPLACED;
 use model::MAX_EVENTS;
 use model::MAX_MACHINES;
 use model::MAX_TRANSITIONS;
 use model::Refusal;
-use reader::Verdict;
 use regions::MOVES;
 use regions::NOT_ON;
+use rows::NO_STATE;
+use rows::UNPLACED;
+use rows::Verdict;
 use stages::read_as_far_as_10;
 use transition_system::EXCITATION_WORDS;
 

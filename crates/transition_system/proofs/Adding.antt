@@ -11,11 +11,11 @@ use Rattle.model.specs.declared.Refusal.the-variants.{SelfLoop, Nondeterministi
 use Rattle.model.specs.Cases.{tabled}
 use Rattle.model.specs.Lists.{exists, index}
 use Rattle.model.specs.TransitionSystem.{Transition, leads, transitionRefusal}
-use Rattle.reader.specs.declared.Verdict.{Verdict}
-use Rattle.reader.specs.declared.Verdict.the-variants.{Refused, Passed}
-use Rattle.reader.specs.Tables.{verdictRefusal}
-use Rattle.reader.specs.Told.{entry, transitionAt, firstTransitions}
-use Rattle.reader.proofs.Fronts.{exists-snoc, front-length}
+use Rattle.rows.specs.declared.Verdict.{Verdict}
+use Rattle.rows.specs.declared.Verdict.the-variants.{Refused, Passed}
+use Rattle.rows.specs.Tables.{verdictRefusal}
+use Rattle.rows.specs.Told.{entry, transitionAt, firstTransitions}
+use Rattle.rows.proofs.Fronts.{exists-snoc, front-length}
 use Rattle.state_set.specs.Rows.{memberAt, Inserted}
 use Rattle.transition_system.specs.Sets.{Excitations, Has, Successors, SetsOf, InRows, joins}
 

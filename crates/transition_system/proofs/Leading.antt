@@ -8,9 +8,9 @@ use lib.ListN.{length}
 use Rattle.model.specs.Lists.{index}
 use Rattle.model.specs.TransitionSystem.{leads}
 use Rattle.model.proofs.Laws.{and-l, and-r, and-i, not-T, eqb-of}
-use Rattle.reader.specs.Told.{entry, transitionAt, firstTransitions}
-use Rattle.reader.proofs.Searches.{Upto, index-is}
-use Rattle.reader.proofs.Fronts.{front-length, front-at}
+use Rattle.rows.specs.Told.{entry, transitionAt, firstTransitions}
+use Rattle.rows.proofs.Searches.{Upto, index-is}
+use Rattle.rows.proofs.Fronts.{front-length, front-at}
 
 -- transition k of the rows leads from s by e
 pub record LeadsAt (source event : List ℕ) (s e k : ℕ) : Type 0 where

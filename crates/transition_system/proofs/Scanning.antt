@@ -9,11 +9,11 @@ use lib.ListN.{length}
 use Rattle.model.specs.declared.Refusal as D
 use Rattle.model.specs.Refusal.{Refusal}
 use Rattle.model.specs.TransitionSystem.{Transition, transitionRefusal, transitionsRefusal}
-use Rattle.reader.specs.declared.Verdict.{Verdict}
-use Rattle.reader.specs.declared.Verdict.the-variants.{Refused, Passed}
-use Rattle.reader.specs.Tables.{verdictRefusal}
-use Rattle.reader.specs.Told.{transitionAt, firstTransitions}
-use Rattle.reader.proofs.Fronts.{front-more, front-rest}
+use Rattle.rows.specs.declared.Verdict.{Verdict}
+use Rattle.rows.specs.declared.Verdict.the-variants.{Refused, Passed}
+use Rattle.rows.specs.Tables.{verdictRefusal}
+use Rattle.rows.specs.Told.{transitionAt, firstTransitions}
+use Rattle.rows.proofs.Fronts.{front-more, front-rest}
 use Rattle.transition_system.specs.Sets.{SetsOf, InRows}
 
 orElse-assoc : {A : Type 0} (a b c : Option A) → orElse a (orElse b c) ≡ orElse (orElse a b) c

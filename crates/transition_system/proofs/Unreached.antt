@@ -16,8 +16,8 @@ use Rattle.model.proofs.Reach.{Leads, here, by, reached-sound, reached-complete
 use Rattle.state_set.specs.declared.StateSet.{StateSet}
 use Rattle.state_set.specs.Member.{member}
 use Rattle.state_set.proofs.Sets.{fullSet, full-member}
-use Rattle.reader.specs.Told.{below}
-use Rattle.reader.proofs.Searches.{below-out, searched, lowest-same}
+use Rattle.rows.specs.Told.{below}
+use Rattle.rows.proofs.Searches.{below-out, searched, lowest-same}
 use Rattle.transition_system.specs.Reaches.{Reaches}
 
 -- the lowest below n is the lowest below a higher bound, where that is below n

@@ -10,8 +10,8 @@ use Rattle.model.specs.Lists.{exists, lowest}
 use Rattle.model.specs.TransitionSystem.{Transition, TransitionSystem, leads, unusedEvent}
 use Rattle.model.proofs.Bounds.{Within}
 use Rattle.model.proofs.Laws.{not-T, contra, and-i, and-r, exists-intro, exists-elim, not-exists, lowest-none, none-lowest}
-use Rattle.reader.specs.Told.{below}
-use Rattle.reader.proofs.Searches.{Upto, searched}
+use Rattle.rows.specs.Told.{below}
+use Rattle.rows.proofs.Searches.{Upto, searched}
 use Rattle.state_set.specs.declared.StateSet.{StateSet}
 use Rattle.state_set.specs.declared.Found.{Found}
 use Rattle.state_set.specs.declared.Found.the-variants.{Nothing, State}

@@ -13,14 +13,14 @@ use Rattle.model.specs.Lists.{exists}
 use Rattle.model.specs.TransitionSystem.{Transition, TransitionSystem, transitionsRefusal, unusedEvent, unreachableState, systemRefusal}
 use Rattle.model.proofs.Bounds.{Within}
 use Rattle.model.proofs.Laws.{and-r, exists-elim}
-use Rattle.reader.specs.declared.Tables.{Tables}
-use Rattle.reader.specs.declared.Verdict.{Verdict}
-use Rattle.reader.specs.declared.Verdict.the-variants.{Refused, Passed}
-use Rattle.reader.specs.Bounded.{Bounded}
-use Rattle.reader.specs.Tables.{verdictRefusal}
-use Rattle.reader.specs.Told.{firstTransitions, systemOf, below}
-use Rattle.reader.proofs.Searches.{below-in, below-out}
-use Rattle.reader.proofs.Fronts.{within-tables}
+use Rattle.rows.specs.declared.Tables.{Tables}
+use Rattle.rows.specs.declared.Verdict.{Verdict}
+use Rattle.rows.specs.declared.Verdict.the-variants.{Refused, Passed}
+use Rattle.rows.specs.Bounded.{Bounded}
+use Rattle.rows.specs.Tables.{verdictRefusal}
+use Rattle.rows.specs.Told.{firstTransitions, systemOf, below}
+use Rattle.rows.proofs.Searches.{below-in, below-out}
+use Rattle.rows.proofs.Fronts.{within-tables}
 use Rattle.state_set.specs.Rows.{memberAt}
 use Rattle.state_set.proofs.Rows.{empty-row}
 use Rattle.transition_system.specs.Sets.{Excitations, joins, Has, Successors, Closed, SetsOf}
@@ -32,7 +32,7 @@ no-successors n = record { members = λ s u l. empty-row n s u }
 
 -- the transitions that the tables hold
 abbrev held : Tables → List Transition
-held p = firstTransitions (p .source) (p .event) (p .target) (p .transitions)
+held p = firstTransitions (p .source) (p .event) (p .target) (p .counts .transitions)
 
 -- what the whole check answers
 abbrev Checks : Tables → Verdict → List ℕ → Type 0
@@ -67,7 +67,7 @@ module _
     sets = s (ap verdictRefusal e)
 
     -- a transition leads to a declared state
-    pub closed : p .states * 4 ≤ length successors → Closed successors
+    pub closed : p .counts .states * 4 ≤ length successors → Closed successors
     unfolding systemOf joins
     closed l = record { inside = inside }
       where
@@ -77,25 +77,25 @@ module _
             let target : t .target ≡ u = eqb→eq (t .target) u (and-r (eqb (t .source) s) (eqb (t .target) u) q) in
             omega (arith, within-tables p b .target t i)
 
-    unused-is : (x : ℕ) → Unused excited (p .events) x → below (p .events) x ≡ unusedEvent (systemOf p)
+    unused-is : (x : ℕ) → Unused excited (p .counts .events) x → below (p .counts .events) x ≡ unusedEvent (systemOf p)
     unfolding systemOf
     unused-is x u = u (systemOf p) (within-tables p b) (b .states) refl (sets .excitations)
 
-    unreached-is : (i y : ℕ) → i ≡ p .initial → Unreached successors i (p .states) y → below (p .states) y ≡ unreachableState (systemOf p)
+    unreached-is : (i y : ℕ) → i ≡ p .counts .initial → Unreached successors i (p .counts .states) y → below (p .counts .states) y ≡ unreachableState (systemOf p)
     unfolding systemOf
     unreached-is i y q w = w (systemOf p) (within-tables p b) refl (sym q) (sets .follows)
 
-    pub event-refuses : {x : ℕ} → Unused excited (p .events) x → x < p .events → Checks p (Refused (UnusedEvent x)) excited
+    pub event-refuses : {x : ℕ} → Unused excited (p .counts .events) x → x < p .counts .events → Checks p (Refused (UnusedEvent x)) excited
     unfolding verdictRefusal tabled systemRefusal systemOf orElse
     event-refuses {x} u l = (rw (passes, ← unused-is x u, below-in _ _ l), λ n. absurd (Option·some-ne-none _ n))
 
     -- 6 passes
-    module _ {x i : ℕ} (u : Unused excited (p .events) x) (m : p .events ≤ x) (q : i ≡ p .initial) where
-      pub state-refuses : {y : ℕ} → Unreached successors i (p .states) y → y < p .states → Checks p (Refused (Unreachable y)) excited
+    module _ {x i : ℕ} (u : Unused excited (p .counts .events) x) (m : p .counts .events ≤ x) (q : i ≡ p .counts .initial) where
+      pub state-refuses : {y : ℕ} → Unreached successors i (p .counts .states) y → y < p .counts .states → Checks p (Refused (Unreachable y)) excited
       unfolding verdictRefusal tabled systemRefusal systemOf orElse
       state-refuses {y} w l =
           (rw (passes, ← unused-is x u, below-out _ _ m, ← unreached-is i y q w, below-in _ _ l), λ n. absurd (Option·some-ne-none _ n))
 
-      pub all-pass : {y : ℕ} → Unreached successors i (p .states) y → p .states ≤ y → Checks p Passed excited
+      pub all-pass : {y : ℕ} → Unreached successors i (p .counts .states) y → p .counts .states ≤ y → Checks p Passed excited
       unfolding verdictRefusal systemRefusal systemOf orElse
       all-pass {y} w l = (rw (passes, ← unused-is x u, below-out _ _ m, ← unreached-is i y q w, below-out _ _ l), λ _. sets .excitations)

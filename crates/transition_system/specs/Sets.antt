@@ -10,10 +10,10 @@ use Rattle.model.specs.TransitionSystem.{Transition, leads}
 use Rattle.state_set.specs.declared.StateSet.{StateSet}
 use Rattle.state_set.specs.Member.{member}
 use Rattle.state_set.specs.Rows.{memberAt}
-use Rattle.reader.specs.declared.Counts.{Counts}
-use Rattle.reader.specs.declared.Tables.{Tables}
-use Rattle.reader.specs.Tables.{tablesIn}
-use Rattle.reader.specs.Told.{entry}
+use Rattle.rows.specs.declared.Counts.{Counts}
+use Rattle.rows.specs.declared.Tables.{Tables}
+use Rattle.rows.specs.Tables.{tablesIn}
+use Rattle.rows.specs.Told.{entry}
 
 -- set e has the states that a transition of the event e leaves: its excitation set
 pub record Excitations (ts : List Transition) (row : List ℕ) : Type 0 where

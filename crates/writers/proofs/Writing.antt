@@ -8,7 +8,7 @@ use mathlib.Core.List.{List, [], _∷_, _++_}
 use lib.ListN.{length, getD, set, take, length-append}
 use lib.Seq.{length-sets, take-suc, take-all}
 use Rattle.model.proofs.Laws.{below-suc}
-use Rattle.lines.proofs.Rows.{sets-append}
+use Rattle.model.proofs.ListLaws.{sets-append}
 use Rattle.writers.specs.Written.{Writes}
 
 module _ {at : ℕ} {out : List ℕ} where

@@ -35,22 +35,22 @@ enum-told c = search needs
 slice-aggregate-hand-over : tie.Need-slice-aggregate-hand-over
 slice-aggregate-hand-over c =
     let past = c .before .before in
-    sym (past-text (read past .read-as-far-as-12 .ensures) (past .enum-told .given .1) .past .sized .name-places)
+    sym (past-text (read past .read-as-far-as-12 .ensures) (past .enum-told .given .1) .past .held .sized .name-places)
 
 slice-aggregate-hand-over-2 : tie.Need-slice-aggregate-hand-over-2
 slice-aggregate-hand-over-2 c =
     let past = c .before .before .before in
-    sym (past-text (read past .read-as-far-as-12 .ensures) (past .enum-told .given .1) .past .sized .name-lengths)
+    sym (past-text (read past .read-as-far-as-12 .ensures) (past .enum-told .given .1) .past .held .sized .name-lengths)
 
 slice-aggregate-hand-over-3 : tie.Need-slice-aggregate-hand-over-3
 slice-aggregate-hand-over-3 c =
     let past = c .before .before .before .before in
-    sym (past-text (read past .read-as-far-as-12 .ensures) (past .enum-told .given .1) .past .sized .place-counts)
+    sym (past-text (read past .read-as-far-as-12 .ensures) (past .enum-told .given .1) .past .held .sized .place-counts)
 
 slice-aggregate-hand-over-4 : tie.Need-slice-aggregate-hand-over-4
 slice-aggregate-hand-over-4 c =
     let past = c .before .before .before .before .before in
-    sym (past-text (read past .read-as-far-as-12 .ensures) (past .enum-told .given .1) .past .sized .places)
+    sym (past-text (read past .read-as-far-as-12 .ensures) (past .enum-told .given .1) .past .held .sized .places)
 
 slice-aggregate-hand-over-5 : tie.Need-slice-aggregate-hand-over-5
 slice-aggregate-hand-over-5 c = search needs
@@ -62,7 +62,7 @@ hand-over-requires : tie.Need-hand-over-requires
 hand-over-requires c κs =
     let past = c .before .before .before .before .before .before .before .before in
     let j = past-text (read past .read-as-far-as-12 .ensures) (past .enum-told .given .1) in
-    let z = j .past .sized in
+    let z = j .past .held .sized in
     (sheet-bounds _ _ _ _ _ _ _ _ _ (j .past .held .bounds) (z .name-lengths) (z .place-counts) (z .places), z .name-places, j .past .cover .moves .rows, j .past .held .names)
 
 same-length : tie.Need-same-length

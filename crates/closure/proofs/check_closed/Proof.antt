@@ -5,8 +5,8 @@ use mathlib.Core.Path.{_≡_, sym}
 use mathlib.Core.Option.{none}
 use borrow.Author.Needs.{needs}
 use Rattle.model.specs.Cases.{tabled}
-use Rattle.reader.specs.Tables.{verdictRefusal}
-use Rattle.reader.proofs.Searches.{Upto, upto-start}
+use Rattle.rows.specs.Tables.{verdictRefusal}
+use Rattle.rows.proofs.Searches.{Upto, upto-start}
 use Rattle.closure.specs.Covers.{openIn}
 use Rattle.closure.proofs.Searches.{none-open, open-more, open-here}
 use Rattle.closure.proofs.check_closed.Statement.{statement}

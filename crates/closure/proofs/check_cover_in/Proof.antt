@@ -2,7 +2,7 @@
 use mathlib.Core.Path.{refl}
 use borrow.Author.Needs.{needs}
 use Rattle.model.specs.Cases.{tabled}
-use Rattle.reader.specs.Tables.{verdictRefusal}
+use Rattle.rows.specs.Tables.{verdictRefusal}
 use Rattle.closure.proofs.Cover.{cover-refused, cover-passed, no-pass}
 use Rattle.closure.proofs.check_cover_in.Statement.{statement}
 use Rattle.closure.proofs.check_cover_in.Tie as tie

@@ -5,7 +5,7 @@ use mathlib.Core.Path.{_≡_, sym, _∙_}
 use mathlib.Core.Bool.{true}
 use borrow.Author.Needs.{needs}
 use borrow.Author.Tests.{not-true, not-false}
-use Rattle.reader.proofs.Searches.{Upto, upto-start, upto-more}
+use Rattle.rows.proofs.Searches.{Upto, upto-start, upto-more}
 use Rattle.closure.specs.Covers.{onSome}
 use Rattle.closure.proofs.Effective.{ineffective-found}
 use Rattle.closure.proofs.ineffective_event.Statement.{statement}

@@ -8,9 +8,9 @@ use borrow.Author.Needs.{needs}
 use denote.Ref.{now}
 use lib.ListN.{length}
 use Rattle.model.specs.Bytes.{sameName}
-use Rattle.reader.specs.Told.{entry}
-use Rattle.reader.proofs.Searches.{Upto, upto-start, upto-more}
-use Rattle.sheet.proofs.Moving.{nameIn, name-inside}
+use Rattle.rows.specs.Told.{entry}
+use Rattle.rows.proofs.Searches.{Upto, upto-start, upto-more}
+use Rattle.rows.proofs.Names.{nameIn, name-inside}
 use Rattle.command_line.proofs.Declaring.{by-cut, event-is, event-none}
 use Rattle.command_line.proofs.event_named.Statement.{statement}
 use Rattle.command_line.proofs.event_named.Tie as tie

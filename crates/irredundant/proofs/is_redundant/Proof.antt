@@ -4,7 +4,7 @@ use mathlib.Core.Path.{_≡_, sym, _∙_}
 use mathlib.Core.Bool.{true}
 use borrow.Author.Tests.{lt-ltb, not-false}
 use borrow.Author.Needs.{needs}
-use Rattle.reader.proofs.Searches.{Upto, upto-start, upto-more}
+use Rattle.rows.proofs.Searches.{Upto, upto-start, upto-more}
 use Rattle.irredundant.specs.Kept.{coveredWithout}
 use Rattle.irredundant.proofs.Covered.{no-others, not-covered, all-covered}
 use Rattle.irredundant.proofs.is_redundant.Statement.{statement}

@@ -1,6 +1,6 @@
 -- `naming::no_part` meets its contract: the part is the empty one at the text's beginning.
 use mathlib.Core.Path.{refl}
-use Rattle.reader.specs.Tables.{verdictRefusal}
+use Rattle.rows.specs.Tables.{verdictRefusal}
 use Rattle.naming.proofs.no_part.Statement.{statement}
 use Rattle.naming.proofs.no_part.Tie as tie
 

@@ -9,7 +9,7 @@ use Rattle.model.specs.Services.{asFarAs7}
 use Rattle.writers.proofs.Refusals.{numeral-most}
 use Rattle.writers.proofs.Writing.{writes-length}
 use Rattle.stages.specs.Stages.{Held}
-use Rattle.checker.proofs.Verdicts.{lets-pass}
+use Rattle.rows.proofs.Verdicts.{lets-pass}
 use Rattle.printing.proofs.Steps.{steps-refused, steps-short, steps-all}
 use Rattle.printing.proofs.print_steps.Statement.{statement}
 use Rattle.printing.proofs.print_steps.Tie as tie
@@ -18,8 +18,8 @@ abbrev text : tie.After-enum-told → List ℕ
 text c = now (c .before .before .before .before .before .args .text)
 
 -- the text is past 7, and the rows hold its value
-held : (c : tie.After-enum-told) → Held (asFarAs7 (text c)) (text c) (c .before .before .read-as-far-as-7 .result .tables)
-held c = c .before .before .read-as-far-as-7 .ensures .held (lets-pass (c .enum-told .given .1))
+held : (c : tie.After-enum-told) → Held (asFarAs7 (text c)) (text c) (c .before .before .check-plan .result .tables)
+held c = c .before .before .check-plan .ensures .held (lets-pass (c .enum-told .given .1))
 
 -- from the end of the first line back to the test for room
 abbrev fitting : tie.After-write-bytes2 → tie.Else1
@@ -28,10 +28,10 @@ fitting c = c .before .before .before .before .before .before .before .before .b
 -- the first line is short
 room-left : (c : tie.After-write-bytes2) → c .write-bytes2 .result + 32000 ≤ length (c .write-bytes2 .last .1 .0)
 room-left c =
-    omega (arith, numeral-most ((fitting c) .before .before .before .before .read-as-far-as-7 .result .tables .transitions), writes-length (c .write-bytes2 .ensures))
+    omega (arith, numeral-most ((fitting c) .before .before .before .before .check-plan .result .tables .counts .transitions), writes-length (c .write-bytes2 .ensures))
 
-read-as-far-as-7-requires : tie.Need-read-as-far-as-7-requires
-read-as-far-as-7-requires c κs = search needs
+check-plan-requires : tie.Need-check-plan-requires
+check-plan-requires c κs = search needs
 
 enum-known-verdict : tie.Need-enum-known-verdict
 enum-known-verdict c = search needs
@@ -46,7 +46,7 @@ returns : tie.Need-returns
 returns c =
     let printed = c .before .before in
     let told = printed .before .before .before in
-    steps-refused _ _ (told .before .before .read-as-far-as-7 .ensures .verdict) (told .verdict .given .1) (printed .print-refusal .ensures)
+    steps-refused _ _ (told .before .before .check-plan .ensures .verdict) (told .verdict .given .1) (printed .print-refusal .ensures)
 
 enum-told : tie.Need-enum-told
 enum-told c = search needs
@@ -71,7 +71,7 @@ write-bytes-requires c κs = search needs
 
 write-numeral-requires : tie.Need-write-numeral-requires
 write-numeral-requires c κs =
-    omega (arith, numeral-most (c .before .before .before .before .before .before .before .before .before .before .read-as-far-as-7 .result .tables .transitions))
+    omega (arith, numeral-most (c .before .before .before .before .before .before .before .before .before .before .check-plan .result .tables .counts .transitions))
 
 slice-aggregate-write-bytes-2 : tie.Need-slice-aggregate-write-bytes-2
 slice-aggregate-write-bytes-2 c = search needs
@@ -81,7 +81,7 @@ write-bytes-requires-2 c κs =
     omega (
       arith,
       numeral-most (c .before .before .before .before .before .before .before .before .before .before .before .before .before .before
-          .before .read-as-far-as-7 .result .tables .transitions),
+          .before .check-plan .result .tables .counts .transitions),
     )
 
 write-transitions-requires : tie.Need-write-transitions-requires
@@ -108,7 +108,7 @@ pub print-steps-spec : {M : Type 1} → statement M
 print-steps-spec =
     tie.close
     (tie.spec
-    read-as-far-as-7-requires
+    check-plan-requires
     enum-known-verdict
     print-refusal-requires
     same-length

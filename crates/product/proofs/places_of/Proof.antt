@@ -1,7 +1,7 @@
 -- `product::places_of` meets its contract: the machines passed have their places. The laws are in `Places`.
 use Prim.Native.Nat.{_+_, _-_, _*_}
 use borrow.Author.Needs.{needs}
-use Rattle.reader.specs.Told.{entry}
+use Rattle.rows.specs.Told.{entry}
 use Rattle.product.proofs.Places.{Placing, place-start, place-more, place-end}
 use Rattle.product.proofs.places_of.Statement.{statement}
 use Rattle.product.proofs.places_of.Tie as tie

@@ -3,8 +3,8 @@ use Prim.Native.Nat.{_-_, _<_}
 use native.Mathlib.Omega.{arith}
 use borrow.Author.Needs.{needs}
 use lib.ListN.{length}
-use Rattle.reader.specs.Told.{entry}
-use Rattle.reader.proofs.Searches.{Upto, upto-start, upto-more}
+use Rattle.rows.specs.Told.{entry}
+use Rattle.rows.proofs.Searches.{Upto, upto-start, upto-more}
 use Rattle.product.proofs.Unknown.{unknown-first}
 use Rattle.product.proofs.unknown_event.Statement.{statement}
 use Rattle.product.proofs.unknown_event.Tie as tie

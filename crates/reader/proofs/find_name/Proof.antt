@@ -3,7 +3,7 @@ use Prim.Native.Nat.{_-_}
 use native.Mathlib.Omega.{arith}
 use mathlib.Core.Logic.{⊎-elim}
 use Rattle.quick_step.specs.Quick.{Same}
-use Rattle.reader.proofs.Searches.{Upto, upto-start, upto-more}
+use Rattle.rows.proofs.Searches.{Upto, upto-start, upto-more}
 use Rattle.reader.proofs.NameRows.{finds}
 use Rattle.reader.proofs.find_name.Statement.{statement}
 use Rattle.reader.proofs.find_name.Tie as tie

@@ -1,6 +1,6 @@
 -- `reader::no_counts` meets its contract.
 use mathlib.Core.Path.{refl}
-use Rattle.reader.specs.Tables.{verdictRefusal, noCounts}
+use Rattle.rows.specs.Tables.{verdictRefusal, noCounts}
 use Rattle.reader.proofs.no_counts.Statement.{statement}
 use Rattle.reader.proofs.no_counts.Tie as tie
 

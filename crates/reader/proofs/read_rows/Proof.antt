@@ -6,8 +6,7 @@ use borrow.Author.Needs.{needs}
 use Rattle.lines.specs.Lines.{EventRows, eventRows}
 use Rattle.reader.specs.Sections.{FirstFound, FirstRead, transitionRows, machineRows, ReadsLines}
 use Rattle.reader.proofs.Phases.{first-read}
-use Rattle.reader.proofs.Answering.{rows-refused}
-use Rattle.reader.proofs.Telling.{answering-rows}
+use Rattle.reader.proofs.Answering.{rows-refused, answering-rows}
 use Rattle.reader.proofs.read_rows.Statement.{statement}
 use Rattle.reader.proofs.read_rows.Tie as tie
 

@@ -7,8 +7,8 @@ use mathlib.Core.Bool.{false≢true}
 use mathlib.Core.Path.{_≡_}
 use denote.Ref.{now}
 use lib.Dec.{T}
-use Rattle.reader.specs.Told.{entry}
-use Rattle.reader.proofs.Searches.{Upto, upto-start, upto-more}
+use Rattle.rows.specs.Told.{entry}
+use Rattle.rows.proofs.Searches.{Upto, upto-start, upto-more}
 use Rattle.regions.specs.Crossings.{agreeing}
 use Rattle.regions.specs.Columns.{throughLane, AllAgree}
 use Rattle.regions.proofs.Lanes.{through-lanes}

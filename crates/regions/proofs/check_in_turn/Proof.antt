@@ -6,10 +6,10 @@ use denote.Ref.{now}
 use mathlib.Core.Path.{refl, ap, sym, _∙_}
 use mathlib.Core.List.{List}
 use lib.ListN.{replicate}
-use Rattle.reader.specs.declared.Tables.{Tables}
-use Rattle.reader.specs.Tables.{tablesIn}
-use Rattle.reader.specs.Told.{systemOf}
-use Rattle.reader.specs.Bounded.{Bounded}
+use Rattle.rows.specs.declared.Tables.{Tables}
+use Rattle.rows.specs.Tables.{tablesIn}
+use Rattle.rows.specs.Told.{systemOf}
+use Rattle.rows.specs.Bounded.{Bounded}
 use Rattle.regions.specs.Moves.{MoveRows}
 use Rattle.regions.proofs.Chains.{chained}
 use Rattle.regions.proofs.Checking.{Checking, check-start, check-end, duplicate-stop, Sought, uncovered-stop, Crossed, region-stop, check-more}

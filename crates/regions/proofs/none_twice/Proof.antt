@@ -3,8 +3,8 @@ use Prim.Native.Nat.{_-_}
 use native.Mathlib.Omega.{arith}
 use mathlib.Core.Path.{_≡_}
 use mathlib.Core.Bool.{false≢true}
-use Rattle.reader.specs.Told.{entry}
-use Rattle.reader.proofs.Searches.{Upto, upto-start, upto-more}
+use Rattle.rows.specs.Told.{entry}
+use Rattle.rows.proofs.Searches.{Upto, upto-start, upto-more}
 use Rattle.regions.proofs.none_twice.Statement.{statement}
 use Rattle.regions.proofs.none_twice.Tie as tie
 

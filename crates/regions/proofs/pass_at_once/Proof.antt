@@ -8,9 +8,9 @@ use mathlib.Core.Path.{ap}
 use mathlib.Core.Bool.{false, false≢true}
 use mathlib.Core.List.{List, []}
 use lib.ListN.{replicate}
-use Rattle.reader.specs.declared.Tables.{Tables}
-use Rattle.reader.specs.Tables.{tablesIn}
-use Rattle.reader.specs.Told.{systemOf}
+use Rattle.rows.specs.declared.Tables.{Tables}
+use Rattle.rows.specs.Tables.{tablesIn}
+use Rattle.rows.specs.Told.{systemOf}
 use Rattle.regions.specs.Regions.{PassesAtOnce}
 use Rattle.regions.proofs.AtOnce.{comparable, leading, all-pass}
 use Rattle.regions.proofs.pass_at_once.Statement.{statement}

@@ -3,7 +3,7 @@ use Prim.Native.Nat.{_+_, _-_, _*_}
 use native.Mathlib.Omega.{arith}
 use borrow.Author.Needs.{needs}
 use mathlib.Core.Path.{_≡_}
-use Rattle.reader.specs.Told.{entry}
+use Rattle.rows.specs.Told.{entry}
 use Rattle.regions.proofs.Alike.{apart}
 use Rattle.regions.proofs.Lanes.{Flagged, flag-start, flag-more, Putting, put-start, put-more, put-all}
 use Rattle.regions.proofs.put_lane.Statement.{statement}

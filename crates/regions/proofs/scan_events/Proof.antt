@@ -5,7 +5,7 @@ use native.Mathlib.Omega.{arith}
 use denote.Ref.{now}
 use mathlib.Core.Path.{_≡_}
 use borrow.Author.Needs.{needs}
-use Rattle.reader.specs.Told.{entry}
+use Rattle.rows.specs.Told.{entry}
 use Rattle.regions.specs.Crossings.{crossingAt}
 use Rattle.regions.proofs.Scan.{Walk, walk-start, walk-next, Sofar, sofar-start, sofar-next, scanned-all, scanned-uneven}
 use Rattle.regions.proofs.scan_events.Statement.{statement}

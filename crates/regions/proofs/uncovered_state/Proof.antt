@@ -2,8 +2,8 @@
 use Prim.Native.Nat.{_+_, _-_, _*_}
 use native.Mathlib.Omega.{arith}
 use mathlib.Core.Path.{_≡_}
-use Rattle.reader.specs.Told.{entry}
-use Rattle.reader.proofs.Searches.{Upto, upto-start, upto-more}
+use Rattle.rows.specs.Told.{entry}
+use Rattle.rows.proofs.Searches.{Upto, upto-start, upto-more}
 use Rattle.regions.proofs.Marks.{unplaced-first}
 use Rattle.regions.proofs.uncovered_state.Statement.{statement}
 use Rattle.regions.proofs.uncovered_state.Tie as tie

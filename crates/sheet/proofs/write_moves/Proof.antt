@@ -3,7 +3,8 @@ use Prim.Native.Nat.{_-_}
 use native.Mathlib.Omega.{arith}
 use mathlib.Core.Logic.{⊎-elim}
 use borrow.Author.Needs.{needs}
-use Rattle.sheet.proofs.Moving.{name-inside, Moved, moved-none, moved-skip, moved-add, moved-room, moved-end}
+use Rattle.rows.proofs.Names.{name-inside}
+use Rattle.sheet.proofs.Moving.{Moved, moved-none, moved-skip, moved-add, moved-room, moved-end}
 use Rattle.sheet.proofs.write_moves.Statement.{statement}
 use Rattle.sheet.proofs.write_moves.Tie as tie
 

@@ -6,7 +6,7 @@ use borrow.Author.Needs.{needs}
 use denote.Ref.{now}
 use lib.Seq.{sets}
 use Rattle.model.specs.Bytes.{bytes}
-use Rattle.reader.specs.declared.Tables.{Tables}
+use Rattle.rows.specs.declared.Tables.{Tables}
 use Rattle.writers.specs.Written.{Writes}
 use Rattle.writers.proofs.Writing.{writes-append, writes-length}
 use Rattle.sheet.specs.Rows.{sheetRows}

@@ -1,6 +1,6 @@
 -- `stages::read_as_far_as_10` meets its contract: both answers are laws of `Stages` at what the calls have said.
 use borrow.Author.Needs.{needs}
-use Rattle.stages.proofs.Stages.{rows-held, rows-sized, row-lengths, rows-bounded, refused-to-3-10, judged-10}
+use Rattle.stages.proofs.Stages.{rows-held, row-lengths, rows-bounded, refused-to-3-10, judged-10}
 use Rattle.stages.proofs.read_as_far_as_10.Statement.{statement}
 use Rattle.stages.proofs.read_as_far_as_10.Tie as tie
 
@@ -25,7 +25,8 @@ check-as-far-as-10-requires c κs =
     let t = past c in
     let r = t .before .before .read-rows in
     let fresh = t .before .before .before .before .before .before .before .before .before .before .before .before .before .before .before .pre .1 in
-    (rows-bounded (rows-held (r .ensures .0) (t .enum-told2 .given .1) (r .ensures .1) .bounds), (row-lengths (rows-sized (r .ensures .0) (t .enum-told2 .given .1) (r .ensures .1)), fresh .moves, fresh .excitations))
+    let held = rows-held (r .ensures .0) (t .enum-told2 .given .1) (r .ensures .1) in
+    (rows-bounded (held .bounds), (row-lengths (held .sized), fresh .moves, fresh .excitations))
 
 same-length : tie.Need-same-length
 same-length c = search needs
@@ -42,7 +43,7 @@ returns-2 c =
     let t = past (checked .before) in
     let r = t .before .before .read-rows in
     let held = rows-held (r .ensures .0) (t .enum-told2 .given .1) (r .ensures .1) in
-    judged-10 held _ (rows-sized (r .ensures .0) (t .enum-told2 .given .1) (r .ensures .1)) (checked .check-as-far-as-10 .ensures _ _ _ (held .bounds))
+    judged-10 held _ (checked .check-as-far-as-10 .ensures _ _ _ (held .bounds))
 
 pub read-as-far-as-10-spec : {M : Type 1} → statement M
 read-as-far-as-10-spec =

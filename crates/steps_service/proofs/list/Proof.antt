@@ -2,23 +2,23 @@
 use native.Mathlib.Omega.{arith}
 use mathlib.Core.Path.{sym}
 use borrow.Author.Needs.{needs}
-use Rattle.checker.proofs.Verdicts.{lets-pass}
+use Rattle.rows.proofs.Verdicts.{lets-pass}
 use Rattle.steps_service.proofs.Listing.{lists-refusal, lists-too-few, lists-all}
 use Rattle.steps_service.proofs.list.Statement.{statement}
 use Rattle.steps_service.proofs.list.Tie as tie
 
 -- from the place past 7 back to where the text was read
-abbrev read : tie.After-enum-told → tie.After-read-rows-as-far-as-7
+abbrev read : tie.After-enum-told → tie.After-read-as-far-as-7
 read c = c .before .before
 
-read-rows-as-far-as-7-requires : tie.Need-read-rows-as-far-as-7-requires
-read-rows-as-far-as-7-requires c κs = search needs
+read-as-far-as-7-requires : tie.Need-read-as-far-as-7-requires
+read-as-far-as-7-requires c κs = search needs
 
 enum-known-verdict : tie.Need-enum-known-verdict
 enum-known-verdict c = search needs
 
 returns : tie.Need-returns
-returns c = lists-refusal (c .before .before .before .read-rows-as-far-as-7 .ensures .reading .verdict) (c .before .verdict .given .1)
+returns c = lists-refusal (c .before .before .before .read-as-far-as-7 .ensures .verdict) (c .before .verdict .given .1)
 
 enum-told : tie.Need-enum-told
 enum-told c = search needs
@@ -26,29 +26,29 @@ enum-told c = search needs
 returns-2 : tie.Need-returns-2
 returns-2 c =
     let past = c .before in
-    lists-too-few (read past .read-rows-as-far-as-7 .ensures .reading .held (lets-pass (past .enum-told .given .1))) (c .if1 .taken)
+    lists-too-few (read past .read-as-far-as-7 .ensures .held (lets-pass (past .enum-told .given .1))) (c .if1 .taken)
 
 slice-aggregate-list-transitions : tie.Need-slice-aggregate-list-transitions
 slice-aggregate-list-transitions c =
     let past = c .before .before in
-    sym (read past .read-rows-as-far-as-7 .ensures .sized (lets-pass (past .enum-told .given .1)) .sources)
+    sym (read past .read-as-far-as-7 .ensures .held (lets-pass (past .enum-told .given .1)) .sized .sources)
 
 slice-aggregate-list-transitions-2 : tie.Need-slice-aggregate-list-transitions-2
 slice-aggregate-list-transitions-2 c =
     let past = c .before .before .before in
-    sym (read past .read-rows-as-far-as-7 .ensures .sized (lets-pass (past .enum-told .given .1)) .events)
+    sym (read past .read-as-far-as-7 .ensures .held (lets-pass (past .enum-told .given .1)) .sized .events)
 
 slice-aggregate-list-transitions-3 : tie.Need-slice-aggregate-list-transitions-3
 slice-aggregate-list-transitions-3 c =
     let past = c .before .before .before .before in
-    sym (read past .read-rows-as-far-as-7 .ensures .sized (lets-pass (past .enum-told .given .1)) .targets)
+    sym (read past .read-as-far-as-7 .ensures .held (lets-pass (past .enum-told .given .1)) .sized .targets)
 
 list-transitions-requires : tie.Need-list-transitions-requires
 list-transitions-requires c κs =
     let past = c .before .before .before .before .before in
     let passed = lets-pass (past .enum-told .given .1) in
-    let z = read past .read-rows-as-far-as-7 .ensures .sized passed in
-    let h = read past .read-rows-as-far-as-7 .ensures .reading .held passed .bounds .transitions in
+    let z = read past .read-as-far-as-7 .ensures .held passed .sized in
+    let h = read past .read-as-far-as-7 .ensures .held passed .bounds .transitions in
     (omega (arith, h, z .sources), omega (arith, h, z .events), omega (arith, h, z .targets), omega (arith, h, c .before .before .before .before .before .before .before .before .before .before .before .before .before .before .before .before .before .before .pre))
 
 same-length : tie.Need-same-length
@@ -57,14 +57,14 @@ same-length c = search needs
 returns-3 : tie.Need-returns-3
 returns-3 c =
     let past = c .before .before .before .before .before .before .before .before in
-    let h = read past .read-rows-as-far-as-7 .ensures .reading .held (lets-pass (past .enum-told .given .1)) in
+    let h = read past .read-as-far-as-7 .ensures .held (lets-pass (past .enum-told .given .1)) in
     lists-all h (c .before .before .before .before .before .before .before .if1 .left) (omega (arith, h .bounds .transitions, c .before .before .before .before .before .before .before .before .before .before .before .before .before .before .before .before .before .before .before .before .before .pre, c .before .row .given)) (c .before .before .list-transitions .ensures)
 
 pub list-spec : {M : Type 1} → statement M
 list-spec =
     tie.close
     (tie.spec
-    read-rows-as-far-as-7-requires
+    read-as-far-as-7-requires
     enum-known-verdict
     returns
     enum-told

@@ -2,7 +2,7 @@
 use Prim.Native.Nat.{_-_}
 use native.Mathlib.Omega.{arith}
 use mathlib.Core.Logic.{⊎-elim}
-use Rattle.reader.proofs.Searches.{Upto, upto-start, upto-more}
+use Rattle.rows.proofs.Searches.{Upto, upto-start, upto-more}
 use Rattle.transition_system.proofs.Leading.{LeadsAt, leading}
 use Rattle.transition_system.proofs.first_leading.Statement.{statement}
 use Rattle.transition_system.proofs.first_leading.Tie as tie

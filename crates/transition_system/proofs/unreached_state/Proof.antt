@@ -6,8 +6,8 @@ use native.Mathlib.Omega.{arith}
 use borrow.Author.Needs.{needs}
 use Rattle.model.specs.TransitionSystem.{TransitionSystem, andThen, unreachableState}
 use Rattle.model.proofs.Bounds.{Within}
-use Rattle.reader.specs.Told.{below}
-use Rattle.reader.proofs.Searches.{below-out}
+use Rattle.rows.specs.Told.{below}
+use Rattle.rows.proofs.Searches.{below-out}
 use Rattle.state_set.specs.Member.{stateFound}
 use Rattle.transition_system.specs.Sets.{Successors}
 use Rattle.transition_system.proofs.Unreached.{unreached-by}

@@ -2,7 +2,7 @@
 use Prim.Native.Nat.{_-_}
 use native.Mathlib.Omega.{arith}
 use borrow.Author.Needs.{needs}
-use Rattle.reader.proofs.Searches.{Upto, upto-start, upto-more}
+use Rattle.rows.proofs.Searches.{Upto, upto-start, upto-more}
 use Rattle.transition_system.proofs.Unused.{Idle, nothing-idle, state-excites, unused-found}
 use Rattle.transition_system.proofs.unused_event.Statement.{statement}
 use Rattle.transition_system.proofs.unused_event.Tie as tie

@@ -1,16 +1,16 @@
--- `checker::check_as_far_as_10` meets its contract: the first of two verdicts that refuses is the answer. The laws are in `Rows`.
+-- `stages::check_as_far_as_10` meets its contract: the first of two verdicts that refuses is the answer. The laws are in `Order`.
 use mathlib.Core.Path.{_≡_, sym, _∙_}
 use mathlib.Core.Option.{none}
 use native.Mathlib.Omega.{arith}
 use denote.Ref.{now}
 use borrow.Author.Needs.{needs}
 use Rattle.model.specs.TransitionSystem.{systemRefusal}
-use Rattle.reader.specs.Told.{systemOf}
+use Rattle.rows.specs.Told.{systemOf}
 use Rattle.transition_system.specs.Sets.{systemRows}
-use Rattle.checker.proofs.Verdicts.{lets-pass}
-use Rattle.checker.proofs.Rows.{system-bounded, rows-used, rows-by-system, rows-by-machines}
-use Rattle.checker.proofs.check_as_far_as_10.Statement.{statement}
-use Rattle.checker.proofs.check_as_far_as_10.Tie as tie
+use Rattle.rows.proofs.Verdicts.{lets-pass}
+use Rattle.stages.proofs.Order.{system-bounded, rows-used, rows-by-system, rows-by-machines}
+use Rattle.stages.proofs.check_as_far_as_10.Statement.{statement}
+use Rattle.stages.proofs.check_as_far_as_10.Tie as tie
 
 -- from the place behind 7 back to its check, and to the call
 abbrev checked : tie.After-enum-told → tie.After-check-transition-system

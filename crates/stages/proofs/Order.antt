@@ -1,22 +1,49 @@
--- The verdict on the rows, by the check that gives it: the transition system or each machine.
+-- The verdicts on the transition system and on each machine make one, the first that refuses; and the same of rows.
 use Prim.Native.Nat.{ℕ}
 use native.Mathlib.Omega.{arith}
-use mathlib.Core.Path.{_≡_, sym, _∙_}
-use mathlib.Core.List.{List}
-use mathlib.Core.Option.{none}
+use mathlib.Core.Path.{_≡_, refl, sym, _∙_}
+use mathlib.Core.List.{List, []}
+use mathlib.Core.Option.{none, orElse}
+use lib.ListN.{replicate}
+use Rattle.model.specs.Lists.{exists}
 use Rattle.model.specs.declared.Refusal as D
-use Rattle.model.specs.TransitionSystem.{unusedEvent, systemRefusal}
-use Rattle.reader.specs.declared.Counts.{Counts}
-use Rattle.reader.specs.declared.Verdict.{Verdict}
-use Rattle.reader.specs.declared.Verdict.the-variants.{Refused}
-use Rattle.reader.specs.Tables.{verdictRefusal}
-use Rattle.reader.specs.Told.{systemOf}
-use Rattle.reader.specs.Bounded.{Bounded}
-use Rattle.reader.proofs.Telling.{told-place}
+use Rattle.model.specs.TransitionSystem.{TransitionSystem, unusedEvent, systemRefusal}
+use Rattle.model.specs.Machine.{Decomposition, machinesRefusal}
+use Rattle.model.proofs.Laws.{orElse-none, map-none}
+use Rattle.state_set.proofs.Rows.{empty-row}
+use Rattle.rows.specs.declared.Counts.{Counts}
+use Rattle.rows.specs.declared.Verdict.{Verdict}
+use Rattle.rows.specs.declared.Verdict.the-variants.{Refused}
+use Rattle.rows.specs.Tables.{verdictRefusal}
+use Rattle.rows.specs.Told.{systemOf}
+use Rattle.rows.specs.Bounded.{Bounded}
+use Rattle.rows.proofs.Telling.{told-place}
+use Rattle.rows.proofs.Verdicts.{refuses}
 use Rattle.transition_system.specs.Sets.{Excitations, systemRows}
 use Rattle.regions.specs.Regions.{rowsOf, RegionsTold}
-use Rattle.checker.specs.Order.{ChecksRows}
-use Rattle.checker.proofs.Verdicts.{refuses, by-system, by-machines, all-used}
+use Rattle.stages.specs.Order.{refusalTo10, ChecksRows}
+
+module _ (ts : TransitionSystem) (ms : Decomposition) where
+  pub by-system : {r : Verdict} {why : D.Refusal} → verdictRefusal r ≡ systemRefusal ts → r ≡ Refused why
+      → verdictRefusal (Refused why) ≡ refusalTo10 ts ms
+  unfolding refusalTo10 orElse verdictRefusal
+  by-system h e = rw (← h, e)
+
+  pub by-machines : (r : Verdict) → systemRefusal ts ≡ none → verdictRefusal r ≡ machinesRefusal ts 0 ms → verdictRefusal r ≡ refusalTo10 ts ms
+  unfolding refusalTo10 orElse
+  by-machines r n h = rw n h
+
+-- past 6 every event has a transition
+pub all-used : (ts : TransitionSystem) → systemRefusal ts ≡ none → unusedEvent ts ≡ none
+unfolding systemRefusal
+all-used ts n = map-none _ (unusedEvent ts) (orElse-none _ _ (orElse-none _ _ n .1) .0)
+
+-- a fresh row of sets has no transition's state
+pub no-excitations : Excitations [] (replicate 256 0)
+unfolding exists
+no-excitations = record { size = refl; members = λ e s h. empty-row 256 e s }
+
+-- ---- of rows
 
 module _ {c : Counts} {source event target duplicate place : List ℕ} where
   module _ (b : Bounded (rowsOf c source event target duplicate place)) where

@@ -12,7 +12,7 @@ use Rattle.model.specs.TransitionSystem.{Transition, TransitionSystem}
 use Rattle.model.specs.Machine.{Machine, Decomposition, placeOf, duplicateState}
 use Rattle.model.specs.Bytes.{Name}
 use Rattle.model.specs.Text.{Input, system, nameAt}
-use Rattle.reader.specs.declared.Tables.{Tables}
+use Rattle.rows.specs.declared.Tables.{Tables}
 
 abbrev pub entry : List ℕ → ℕ → ℕ
 entry row k = getD row k 0
@@ -29,10 +29,10 @@ firstTransitions sources events targets (suc k) = firstTransitions sources event
 unfoldable pub systemOf : Tables → TransitionSystem
 systemOf p =
     record {
-      states = p .states;
-      events = p .events;
-      initial = p .initial;
-      transitions = firstTransitions (p .source) (p .event) (p .target) (p .transitions);
+      states = p .counts .states;
+      events = p .counts .events;
+      initial = p .counts .initial;
+      transitions = firstTransitions (p .source) (p .event) (p .target) (p .counts .transitions);
     }
 
 -- the name of event e, in the text
@@ -60,7 +60,7 @@ pub record MachineTold (ts : TransitionSystem) (p : Tables) (k : ℕ) (m : Machi
   pub place : (x : ℕ) → x < 256 → placeAt p k x ≡ cond (elem x (flatten (m .places))) (some (placeOf m x)) none
 
 pub record MachinesTold (ts : TransitionSystem) (p : Tables) (ms : Decomposition) : Type 0 where
-  pub counted : p .machines ≡ length ms
+  pub counted : p .counts .machines ≡ length ms
   pub machine : (k : ℕ) (m : Machine) → At ms k m → MachineTold ts p k m
 
 pub record Told (s : List ℕ) (v : Input) (p : Tables) : Type 0 where

@@ -5,21 +5,13 @@ use mathlib.Core.Path.{_≡_, refl, ap, _∙_}
 use mathlib.Core.Logic.{_⊎_, inl, inr}
 use mathlib.Core.List.{List, [], _∷_, _++_, map}
 use mathlib.Core.Option.{Option·none-ne-some, Option·some-injective}
-use lib.ListN.{length, getD, set, drop, replicate, length-append, length-map, length-replicate, List·getD-append}
-use lib.Seq.{sets, sets-eq, getD-at}
+use lib.ListN.{length, getD, drop, replicate, length-append, length-map, length-replicate, List·getD-append}
+use lib.Seq.{sets-eq, getD-at}
 use Rattle.model.specs.Lists.{At}
 use Rattle.model.specs.Machine.{Place}
 use Rattle.model.proofs.Laws.{below-suc}
 use Rattle.model.proofs.Positions.{at-below}
-use Rattle.lines.specs.Rows.{row, tabulate, placeMark, placeRow}
-
-module _ {A : Type 0} where
-  pub sets-append : (l : List A) (i : ℕ) (xs ys : List A) → sets l i (xs ++ ys) ≡ sets (sets l i xs) (i + length xs) ys
-  sets-append l i [] ys = let z : i + 0 ≡ i = omega arith in rw z
-  sets-append l i (x ∷ xs) ys = let z : i + suc (length xs) ≡ suc i + length xs = omega arith in rw z (sets-append (set l i x) (suc i) xs ys)
-
-  pub sets-snoc : (l : List A) (i : ℕ) (vs : List A) (v : A) → sets l i (vs ++ (v ∷ [])) ≡ set (sets l i vs) (i + length vs) v
-  sets-snoc l i vs v = sets-append l i vs (v ∷ [])
+use Rattle.rows.specs.Rows.{row, tabulate, placeMark, placeRow}
 
 module _ (n x : ℕ) (xs : List ℕ) where
   -- a value that was stored

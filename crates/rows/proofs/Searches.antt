@@ -12,7 +12,7 @@ use lib.Dec.{T}
 use lib.ListN.{length, getD}
 use Rattle.model.specs.Lists.{index, lowest}
 use Rattle.model.proofs.Laws.{order, cond-true, cond-false, none-lowest, lowest-is}
-use Rattle.reader.specs.Told.{below}
+use Rattle.rows.specs.Told.{below}
 
 -- a loop over n numbers has come to k, and what it asks holds of each before k
 pub record Upto (P : ℕ → Type 0) (n k : ℕ) : Type 0 where

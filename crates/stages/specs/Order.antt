@@ -6,12 +6,12 @@ use mathlib.Core.Option.{Option, none, orElse}
 use Rattle.model.specs.Refusal.{Refusal}
 use Rattle.model.specs.TransitionSystem.{TransitionSystem, systemRefusal}
 use Rattle.model.specs.Machine.{Decomposition, machinesRefusal}
-use Rattle.reader.specs.declared.Counts.{Counts}
-use Rattle.reader.specs.declared.Tables.{Tables}
-use Rattle.reader.specs.declared.Verdict.{Verdict}
-use Rattle.reader.specs.Tables.{verdictRefusal, tablesIn}
-use Rattle.reader.specs.Told.{systemOf, MachinesTold}
-use Rattle.reader.specs.Bounded.{Bounded}
+use Rattle.rows.specs.declared.Counts.{Counts}
+use Rattle.rows.specs.declared.Tables.{Tables}
+use Rattle.rows.specs.declared.Verdict.{Verdict}
+use Rattle.rows.specs.Tables.{verdictRefusal, tablesIn}
+use Rattle.rows.specs.Told.{systemOf, MachinesTold}
+use Rattle.rows.specs.Bounded.{Bounded}
 use Rattle.closure.specs.Covers.{CoverTold}
 
 unfoldable pub refusalTo10 : TransitionSystem → Decomposition → Option Refusal

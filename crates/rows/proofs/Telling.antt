@@ -2,18 +2,16 @@
 use Prim.Native.Nat.{ℕ, zero, suc, _+_, _*_, _<_, _≤_}
 use native.Mathlib.Omega.{arith}
 use borrow.Author.Tests.{ne-eqb}
-use mathlib.Core.Path.{_≡_, refl, ap, sym, _∙_, subst}
+use mathlib.Core.Path.{_≡_, refl, ap, _∙_}
 use mathlib.Core.Logic.{_⊎_, inl, inr}
 use mathlib.Core.Bool.{Bool, true, false, not, cond}
 use mathlib.Core.List.{List, [], _∷_, map, flatMap, flatten}
 use mathlib.Core.Option.{none, some, Option·none-ne-some, Option·some-injective}
 use lib.Dec.{T, eqb}
-use lib.ListN.{length, getD, take, List·getD-append}
+use lib.ListN.{length, getD, take, length-append, List·getD-append}
 use lib.Seq.{take-suc, take-length, getD-append-add}
 use Rattle.model.specs.Lists.{At, elem, lowest}
-use Rattle.model.specs.Refusal.{Checked, refused, passed, refusalOf}
-use Rattle.model.specs.declared.Refusal as D
-use Rattle.model.specs.Cases.{tabled}
+use Rattle.model.specs.Refusal.{passed}
 use Rattle.model.specs.TransitionSystem.{Transition, TransitionSystem}
 use Rattle.model.specs.Machine.{Place, Machine, duplicateState}
 use Rattle.model.specs.Machine as M
@@ -24,18 +22,11 @@ use Rattle.model.proofs.Places.{home}
 use Rattle.model.proofs.Passed.{machines-good}
 use Rattle.model.proofs.Naming.{name-part}
 use Rattle.model.proofs.Verdicts.{read-iff}
-use Rattle.lines.specs.Rows.{row, tabulate, placeMark, orNoState}
-use Rattle.lines.proofs.Rows.{getD-row, row-at, getD-tabulate, length-tabulate, getD-placeRow, length-placeRow}
-use Rattle.reader.specs.declared.Verdict.{Verdict}
-use Rattle.reader.specs.declared.Verdict.the-variants as Answer
-use Rattle.reader.specs.declared.Counts.{Counts}
-use Rattle.reader.specs.declared.Tables.{Tables}
-use Rattle.reader.specs.declared.Reading.{Reading}
-use Rattle.reader.specs.Tables.{verdictRefusal, tablesOf, tablesIn, Answers}
-use Rattle.reader.specs.Lent.{ReadsRows, AnswersRows, Holds}
-use Rattle.reader.specs.Told.{entry, firstTransitions, systemOf, nameOf, orNone, placeAt, duplicateAt, MachineTold, MachinesTold, Told}
-use Rattle.reader.proofs.MachineSection.{rowOf, length-rows}
-use Rattle.reader.proofs.Answering.{answers-refused}
+use Rattle.rows.specs.Rows.{row, tabulate, placeMark, placeRow, orNoState}
+use Rattle.rows.proofs.Rows.{getD-row, row-at, getD-tabulate, length-tabulate, getD-placeRow, length-placeRow}
+use Rattle.rows.specs.declared.Tables.{Tables}
+use Rattle.rows.specs.Tables.{tablesOf}
+use Rattle.rows.specs.Told.{entry, firstTransitions, systemOf, nameOf, orNone, placeAt, duplicateAt, MachineTold, MachinesTold, Told}
 
 -- ---- marks as options
 
@@ -84,6 +75,15 @@ state-option f n h = go (lowest-view f n)
     go (found k q b t u) = rw (q, ne-eqb k 256 (λ e. omega arith))
     go (absent q u) = rw q
 
+abbrev pub rowOf : Machine → List ℕ
+rowOf m = placeRow (m .places)
+
+-- so many machines have so many entries
+pub length-rows : (ms : List Machine) → length (flatMap rowOf ms) ≡ length ms * 256
+unfolding flatMap
+length-rows [] = refl
+length-rows (m ∷ ms) = omega (arith, length-append (rowOf m) (flatMap rowOf ms), length-placeRow (m .places), length-rows ms)
+
 -- entry x of the row of machine k
 rows-at : (ms : List Machine) (k : ℕ) (m : Machine) (x d : ℕ) → At ms k m → x < 256 → getD (flatMap rowOf ms) (k * 256 + x) d ≡ getD (rowOf m) x d
 unfolding flatMap
@@ -95,23 +95,10 @@ rows-at (y ∷ ms) (suc k) m x d a h =
     let z : suc k * 256 + x ≡ length (rowOf y) + (k * 256 + x) = omega (arith, length-placeRow (y .places)) in
     rw z (getD-append-add (rowOf y) (flatMap rowOf ms) (k * 256 + x) d ∙ rows-at ms k m x d a h)
 
--- ---- verdicts as answers
-
-refused-is : (why : D.Refusal) (c : Checked Input) → some (tabled why) ≡ refusalOf c → c ≡ refused (tabled why)
-refused-is why (refused r) e = ap refused (sym (Option·some-injective (tabled why) r e))
-refused-is why (passed v) e = absurd (Option·none-ne-some (tabled why) (sym e))
-
-passed-is : (c : Checked Input) → none ≡ refusalOf c → (v : Input) × (c ≡ passed v)
-passed-is (refused r) e = absurd (Option·none-ne-some r e)
-passed-is (passed v) e = (v, refl)
-
 -- ---- the tables of a value within its limits
 
-abbrev pub tables : Input → Tables
-tables v = tablesOf (passed v)
-
 module _ (v : Input) (l : Limits v) where
-  transitions-told : (k : ℕ) → k ≤ length (v .transitions) → firstTransitions (tables v .source) (tables v .event) (tables v .target) k ≡ take k (v .transitions)
+  transitions-told : (k : ℕ) → k ≤ length (v .transitions) → firstTransitions (tablesOf v .source) (tablesOf v .event) (tablesOf v .target) k ≡ take k (v .transitions)
   unfolding firstTransitions tablesOf
   transitions-told zero h = refl
   transitions-told (suc k) h =
@@ -120,18 +107,18 @@ module _ (v : Input) (l : Limits v) where
       let same : (f : Transition → ℕ) → entry (row 1024 0 (map f ts)) k ≡ f t = λ f. row-at f 1024 0 ts k t 0 (l .transitions-most) a in
       rw (take-suc ts k t, at-value ts k t t a, transitions-told k (omega arith), same (λ u. u .source), same (λ u. u .event), same (λ u. u .target))
 
-  system-told : systemOf (tables v) ≡ system v
+  system-told : systemOf (tablesOf v) ≡ system v
   unfolding systemOf tablesOf
   system-told = rw (transitions-told (length (v .transitions)) (omega arith), take-length (v .transitions))
 
-  pub name-placed : (e : ℕ) → e < length (v .names) → entry (tables v .«name_at») e ≡ nameAt v e
+  pub name-placed : (e : ℕ) → e < length (v .names) → entry (tablesOf v .«name_at») e ≡ nameAt v e
   unfolding tablesOf
   name-placed e h =
       let n = length (v .names) in
       getD-row 64 0 (tabulate (nameAt v) n) e 0 (omega (arith, length-tabulate (nameAt v) n)) (omega (arith, length-tabulate (nameAt v) n, l .names-most))
       ∙ getD-tabulate (nameAt v) n e 0 h
 
-  name-told : (e : ℕ) → e < length (v .names) → nameOf (write v) (tables v) e ≡ getD (v .names) e []
+  name-told : (e : ℕ) → e < length (v .names) → nameOf (write v) (tablesOf v) e ≡ getD (v .names) e []
   unfolding nameOf tablesOf
   name-told e h =
       let w = getD (v .names) e [] in
@@ -139,7 +126,7 @@ module _ (v : Input) (l : Limits v) where
       let size : entry (row 64 0 (map length (v .names))) e ≡ length w = row-at length 64 0 (v .names) e w 0 (l .names-most) a in
       rw (size, name-placed e h) (name-part v e w a)
 
-  machine-told : (k : ℕ) (m : Machine) → At (v .machines) k m → MachineTold (system v) (tables v) k m
+  machine-told : (k : ℕ) (m : Machine) → At (v .machines) k m → MachineTold (system v) (tablesOf v) k m
   unfolding duplicateAt placeAt duplicateState tablesOf
   machine-told k m a =
       let ms = v .machines in
@@ -157,7 +144,7 @@ module _ (v : Input) (l : Limits v) where
             ∙ place-option (m .places) x (l .machines m (at-mem ms k m a) .most);
       }
 
-  value-told : Told (write v) v (tables v)
+  value-told : Told (write v) v (tablesOf v)
   unfolding tablesOf
   value-told =
       record {
@@ -168,41 +155,20 @@ module _ (v : Input) (l : Limits v) where
       }
 
 -- what the tables tell of a text that passed is its value
-pub told : (s : List ℕ) (v : Input) → read s ≡ passed v → Told s v (tablesOf (read s))
-told s v e = let r = read-iff s v .0 e in rw (e, r .0) (value-told v (r .1))
-
--- the public contracts, from the answers
-pub answering : (s : List ℕ) (r : Reading) → Answers (read s) r
-    → (verdictRefusal (r .verdict) ≡ refusalOf (read s)) × ((r .tables ≡ tablesOf (read s)) × ((v : Input) → read s ≡ passed v → Told s v (r .tables)))
-answering s r a = (a .verdict, (a .rows, λ v e. subst (Told s v) (sym (a .rows)) (told s v e)))
-
-module _ (s : List ℕ) {w : Verdict} {k : Counts} {ats lens sources events targets sizes duplicates places : List ℕ} where
-  pub answering-rows : AnswersRows (read s) w k (tablesIn k ats lens sources events targets sizes duplicates places)
-      → (verdictRefusal w ≡ refusalOf (read s)) × ReadsRows s k ats lens sources events targets sizes duplicates places
-  answering-rows a = (
-    a .verdict,
-    record { tables = a .rows; told = λ v e. subst (Told s v) (sym (a .rows v e)) (subst (λ (c : Checked Input). Told s v (tablesOf c)) e (told s v e)); none = a .none },
-  )
-
--- rows that were read are the tables of the answer
-module _ (s : List ℕ) (k : Counts) (ats lens sources events targets sizes duplicates places : List ℕ) where
-  pub holds-answers : (w : Verdict) (r : Reading) → verdictRefusal w ≡ refusalOf (read s) → ReadsRows s k ats lens sources events targets sizes duplicates places
-      → Holds w (tablesIn k ats lens sources events targets sizes duplicates places) r → Answers (read s) r
-  unfolding verdictRefusal Holds
-  holds-answers (Answer.Refused why) r q o h = answers-refused (refused-is why (read s) q) (h .0) (h .1)
-  holds-answers Answer.Passed r q o h = let (v, u) = passed-is (read s) q in rw h (record { verdict = q; rows = o .tables v u ∙ ap tablesOf (sym u) })
+pub told : (s : List ℕ) (v : Input) → read s ≡ passed v → Told s v (tablesOf v)
+told s v e = let r = read-iff s v .0 e in rw (r .0) (value-told v (r .1))
 
 -- ---- what is told of the transition system, part by part
 
 module _ {s : List ℕ} {v : Input} {p : Tables} (told : Told s v p) where
-  pub told-events : p .events ≡ length (v .names)
+  pub told-events : p .counts .events ≡ length (v .names)
   unfolding systemOf
   told-events = ap (λ (t : TransitionSystem). t .events) (told .tells-system)
 
-  pub told-initial : p .initial ≡ v .initial
+  pub told-initial : p .counts .initial ≡ v .initial
   unfolding systemOf
   told-initial = ap (λ (t : TransitionSystem). t .initial) (told .tells-system)
 
-  pub told-transitions : firstTransitions (p .source) (p .event) (p .target) (p .transitions) ≡ v .transitions
+  pub told-transitions : firstTransitions (p .source) (p .event) (p .target) (p .counts .transitions) ≡ v .transitions
   unfolding systemOf
   told-transitions = ap (λ (t : TransitionSystem). t .transitions) (told .tells-system)

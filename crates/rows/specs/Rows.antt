@@ -3,20 +3,14 @@ use Prim.Native.Nat.{ℕ, zero, suc, _+_}
 use mathlib.Core.Bool.{cond}
 use mathlib.Core.List.{List, [], _∷_, _++_, flatten}
 use mathlib.Core.Option.{Option, none, some}
-use lib.ListN.{length, replicate}
+use lib.ListN.{replicate}
 use lib.Seq.{sets}
 use Rattle.model.specs.Lists.{elem}
 use Rattle.model.specs.Machine.{Place, placeIn}
-use Rattle.model.specs.Bytes.{Name}
 
 -- a row of n entries x, in which the values are stored from the front
 unfoldable pub row : ℕ → ℕ → List ℕ → List ℕ
 row n x xs = sets (replicate n x) 0 xs
-
--- the position of each name of a list that begins at a position: each stands after a space
-unfoldable pub spots : ℕ → List Name → List ℕ
-spots at [] = []
-spots at (e ∷ es) = (at + 1) ∷ spots (at + 1 + length e) es
 
 -- the values of a function at 0 to n - 1
 unfoldable pub tabulate : (ℕ → ℕ) → ℕ → List ℕ

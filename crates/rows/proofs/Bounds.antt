@@ -11,12 +11,12 @@ use Rattle.model.specs.Text.{Input, Limits, nameAt, read, write}
 use Rattle.model.proofs.Positions.{below-at, at-mem}
 use Rattle.model.proofs.Naming.{name-part}
 use Rattle.model.proofs.Verdicts.{read-iff}
-use Rattle.lines.specs.Rows.{row}
-use Rattle.lines.proofs.Rows.{row-at}
-use Rattle.reader.specs.Tables.{tablesOf}
-use Rattle.reader.specs.Told.{entry}
-use Rattle.reader.specs.Bounded.{Bounded, NamesInside}
-use Rattle.reader.proofs.Telling.{tables, name-placed}
+use Rattle.rows.specs.Rows.{row}
+use Rattle.rows.proofs.Rows.{row-at}
+use Rattle.rows.specs.Tables.{tablesOf}
+use Rattle.rows.specs.Told.{entry}
+use Rattle.rows.specs.Bounded.{Bounded, NamesInside}
+use Rattle.rows.proofs.Telling.{name-placed}
 
 -- a bound that holds for each element holds for each entry in use
 row-below : {A : Type 0} (f : A → ℕ) (n bound : ℕ) (xs : List A) → length xs ≤ n → ((x : A) → List·Memᴰ x xs → f x < bound)
@@ -28,7 +28,7 @@ part-inside : (s w : List ℕ) (at : ℕ) → take (length w) (drop at s) ≡ w 
 part-inside s w at e h = omega (arith, ap length e, length-take (length w) (drop at s), length-drop at s)
 
 module _ (v : Input) (l : Limits v) where
-  value-bounded : Bounded (tables v)
+  value-bounded : Bounded (tablesOf v)
   unfolding tablesOf
   value-bounded =
       record {
@@ -46,7 +46,7 @@ module _ (v : Input) (l : Limits v) where
             (arith, row-below (λ (m : Machine). length (m .places)) 16 65 (v .machines) (l .machines-most) (λ m i. omega (arith, l .machines m i .most)) k h);
       }
 
-  value-names-inside : NamesInside (write v) (tables v .«name_at») (tables v .«name_len») (tables v .events)
+  value-names-inside : NamesInside (write v) (tablesOf v .«name_at») (tablesOf v .«name_len») (tablesOf v .counts .events)
   unfolding NamesInside tablesOf
   value-names-inside e h =
       let (w, a) = below-at (v .names) e h in
@@ -58,8 +58,8 @@ module _ (v : Input) (l : Limits v) where
 pub limits : (s : List ℕ) (v : Input) → read s ≡ passed v → Limits v
 limits s v e = read-iff s v .0 e .1
 
-pub bounded : (s : List ℕ) (v : Input) → read s ≡ passed v → Bounded (tablesOf (read s))
-bounded s v e = rw e (value-bounded v (limits s v e))
+pub bounded : (s : List ℕ) (v : Input) → read s ≡ passed v → Bounded (tablesOf v)
+bounded s v e = value-bounded v (limits s v e)
 
-pub names-inside : (s : List ℕ) (v : Input) → read s ≡ passed v → NamesInside s (tablesOf (read s) .«name_at») (tablesOf (read s) .«name_len») (tablesOf (read s) .events)
-names-inside s v e = let r = read-iff s v .0 e in rw (e, r .0) (value-names-inside v (r .1))
+pub names-inside : (s : List ℕ) (v : Input) → read s ≡ passed v → NamesInside s (tablesOf v .«name_at») (tablesOf v .«name_len») (tablesOf v .counts .events)
+names-inside s v e = let r = read-iff s v .0 e in rw (r .0) (value-names-inside v (r .1))

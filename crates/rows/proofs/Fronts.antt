@@ -14,9 +14,9 @@ use Rattle.model.proofs.Laws.{below-suc}
 use Rattle.model.proofs.ListLaws.{exists-append}
 use Rattle.model.proofs.Positions.{at-below, mem-at, at-value}
 use Rattle.model.proofs.Bounds.{Within}
-use Rattle.reader.specs.declared.Tables.{Tables}
-use Rattle.reader.specs.Told.{transitionAt, firstTransitions, systemOf}
-use Rattle.reader.specs.Bounded.{Bounded}
+use Rattle.rows.specs.declared.Tables.{Tables}
+use Rattle.rows.specs.Told.{transitionAt, firstTransitions, systemOf}
+use Rattle.rows.specs.Bounded.{Bounded}
 
 -- one element more
 pub exists-snoc : {A : Type 0} (f : A → Bool) (l : List A) (x : A) → exists f (l ++ (x ∷ [])) ≡ (exists f l || f x)

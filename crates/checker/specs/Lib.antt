@@ -1,2 +1,0 @@
--- `Order`: refusals 4 to 10 in the fixed order.
-pub mod Order
