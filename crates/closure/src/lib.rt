@@ -31,7 +31,7 @@ pub const PLACE_WORDS: usize = 4096;
 // So many machines at most take a shorter row, which takes less time to clear.
 pub const FEW_MACHINES: usize = 2;
 
-pub const FEW_WORDS: usize = 512;
+pub const FEW_PLACE_WORDS: usize = 512;
 
 // The places of machine m as sets, in one pass over its states.
 fn add_places(place: &[u8], n: usize, m: usize, sets: &mut [u64])
@@ -189,7 +189,7 @@ pub fn check_cover(c: Counts, place: &[u8], excited: &[u64], pre: &[u8]) -> Verd
     ensures { λ r. ⌜ CoverJudged c (now (pre .entry)) (now (place .entry)) (now (excited .entry)) r ⌝ }
 {
     if c.machines <= FEW_MACHINES {
-        let mut few = [0u64; FEW_WORDS];
+        let mut few = [0u64; FEW_PLACE_WORDS];
         return check_cover_in(c, place, excited, pre, &mut few);
     }
     let mut sets = [0u64; PLACE_WORDS];

@@ -5,7 +5,7 @@ ghost use lib.ListN.{length};
 ghost use Rattle.closure.specs.Covers.{CountsBounded, PlaceSets};
 ghost use Rattle.irredundant.specs.Kept.{Sizes, AboveSizes, BesideSizes, Extends, AllStates, Below, Adds, coveredWithout, redundant, ThinsBySets, Thins};
 use closure::FEW_MACHINES;
-use closure::FEW_WORDS;
+use closure::FEW_PLACE_WORDS;
 use closure::PLACE_WORDS;
 use closure::check_cover_in;
 use closure::is_effective;
@@ -226,7 +226,7 @@ pub fn remove_redundant(c: Counts, place: &[u8], excited: &[u64], pre: &[u8]) ->
     ensures { λ r. ⌜ Thins c (now (pre .entry)) (now (place .entry)) (now (excited .entry)) r ⌝ }
 {
     if c.machines <= FEW_MACHINES {
-        let mut few = [0u64; FEW_WORDS];
+        let mut few = [0u64; FEW_PLACE_WORDS];
         return thin_by_sets(c, place, excited, pre, &mut few);
     }
     let mut sets = [0u64; PLACE_WORDS];

@@ -117,7 +117,8 @@ pub fn read_figure(s: &[u8], at: usize) -> Word
     Word::Missing
 }
 
-fn wide(b: u8) -> u64
+// A byte as a number of 64 bits.
+pub fn byte_word(b: u8) -> u64
     ensures { λ r. ⌜ (r ≡ b) × (r < 256) ⌝ }
 {
     b as u64
@@ -141,7 +142,7 @@ fn pack_run(s: &[u8], from: usize) -> Packed
         if !is_name_byte(b) {
             return Packed { value, next: i };
         }
-        value = value * 256 + wide(b);
+        value = value * 256 + byte_word(b);
         i += 1;
     }
     Packed { value, next: i }

@@ -25,9 +25,9 @@ use Rattle.model.proofs.Values as Values
 use Rattle.model.proofs.Values.{Named, lines}
 use Rattle.model.proofs.Lines.{line-sound}
 use Rattle.lines.specs.Lines.{EventRows, allBelow}
-use Rattle.reader.specs.declared.Declared.{Declared}
-use Rattle.reader.specs.declared.FirstLines.{FirstLines}
-use Rattle.reader.specs.declared.FirstLines.the-variants as F
+use Rattle.reader.specs.declared.first_lines.Declared.{Declared}
+use Rattle.reader.specs.declared.first_lines.FirstLines.{FirstLines}
+use Rattle.reader.specs.declared.first_lines.FirstLines.the-variants as F
 use Rattle.reader.specs.declared.Section.{Section}
 use Rattle.reader.specs.declared.Section.the-variants.{Refused, Read}
 use Rattle.reader.specs.Sections.{Rest, begun, StatesFound, StatesRead, EventsFound, EventsRead, FirstFound, FirstRead}

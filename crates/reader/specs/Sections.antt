@@ -17,15 +17,15 @@ use Rattle.model.proofs.Values.{Named, lines}
 use Rattle.lexer.specs.Words as Words
 use Rattle.rows.specs.Rows.{row, placeRow}
 use Rattle.lines.specs.Lines.{spots, duplicateMark, EventRows, eventRows, namesFrom}
-use Rattle.quick_step.specs.Quick.{NameRows}
+use Rattle.quick_step_line.specs.Quick.{NameRows}
 use Rattle.rows.specs.declared.Counts.{Counts}
 use Rattle.rows.specs.declared.Tables.{Tables}
 use Rattle.rows.specs.declared.Counted.{Counted}
-use Rattle.reader.specs.declared.Declared.{Declared}
-use Rattle.reader.specs.declared.FirstLines.{FirstLines}
-use Rattle.reader.specs.declared.FirstLines.the-variants as F
-use Rattle.reader.specs.declared.StepAt.{StepAt}
-use Rattle.reader.specs.declared.StepAt.the-variants as A
+use Rattle.reader.specs.declared.first_lines.Declared.{Declared}
+use Rattle.reader.specs.declared.first_lines.FirstLines.{FirstLines}
+use Rattle.reader.specs.declared.first_lines.FirstLines.the-variants as F
+use Rattle.reader.specs.declared.step_lines.StepAt.{StepAt}
+use Rattle.reader.specs.declared.step_lines.StepAt.the-variants as A
 use Rattle.reader.specs.declared.Section.{Section}
 use Rattle.reader.specs.declared.Section.the-variants.{Refused, Read}
 use Rattle.rows.specs.Tables.{tablesIn}

@@ -47,7 +47,7 @@ fn place_len(n: u8) -> u8
 }
 
 // Machine m is one of the machines, and an event with this pre-place is on it.
-fn is_on(pre: u8, m: u8, machines: u8) -> bool
+fn has_move(pre: u8, m: u8, machines: u8) -> bool
     ensures { λ r. ⌜ r ≡ (ltb m machines && ltb pre 64) ⌝ }
 {
     if m < machines {
@@ -71,7 +71,7 @@ fn event_len(name: usize, pre: &[u8], post: &[u8], e: usize, machines: u8) -> us
     while m < MAX_MACHINES {
         let q = pre[from + m];
         let both = place_len(q) + place_len(post[from + m]);
-        if is_on(q, lane, machines) {
+        if has_move(q, lane, machines) {
             moves += 1;
             figures += both;
         }

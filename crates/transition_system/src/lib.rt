@@ -38,7 +38,7 @@ const SUCCESSOR_WORDS: usize = 1024;
 // A system of at most FEW_STATES states is checked with a shorter row of successors, which takes less time to clear.
 const FEW_STATES: usize = 16;
 
-const FEW_WORDS: usize = 64;
+const FEW_SUCCESSOR_WORDS: usize = 64;
 
 // The first of n transitions that leads from state s by event e; n if there is none.
 fn first_leading<'a>(source: &'a [u8], event: &'a [u8], n: usize, s: u8, e: u8) -> usize
@@ -222,7 +222,7 @@ pub fn check_transition_system<'a>(
     ensures { λ r. ⌜ (verdictRefusal r ≡ none → Excitations (systemOf (systemRows c (now (source .entry)) (now (event .entry)) (now (target .entry))) .transitions) (now (excited .exit))) ⌝ }
 {
     if c.states <= FEW_STATES {
-        let mut few = [0u64; FEW_WORDS];
+        let mut few = [0u64; FEW_SUCCESSOR_WORDS];
         check_with(c, source, event, target, excited, &mut few)
     } else {
         let mut successors = [0u64; SUCCESSOR_WORDS];

@@ -40,11 +40,11 @@ returns c =
 mul-value : tie.Need-mul-value Inv-loop μ-loop
 mul-value c = omega (arith, pack-fits (c .before .before .before .before .loop .inv) (c .before .before .before .loop-test .taken))
 
-wide-requires : tie.Need-wide-requires Inv-loop μ-loop
-wide-requires c κs = search needs
+byte-word-requires : tie.Need-byte-word-requires Inv-loop μ-loop
+byte-word-requires c κs = search needs
 
 add-value : tie.Need-add-value Inv-loop μ-loop
-add-value c = omega (arith, pack-fits (c .before .before .before .before .before .loop .inv) (c .before .before .before .before .loop-test .taken), c .wide .ensures .1)
+add-value c = omega (arith, pack-fits (c .before .before .before .before .before .loop .inv) (c .before .before .before .before .loop-test .taken), c .byte-word .ensures .1)
 
 add-i : tie.Need-add-i Inv-loop μ-loop
 add-i c = omega (arith, name-byte (c .before) .within)
@@ -54,7 +54,7 @@ loop-less c = search needs
 
 loop-again : tie.Need-loop-again Inv-loop μ-loop
 loop-again c =
-    pack-more (c .before .before .before .before .before .loop .inv) (c .before .before .before .before .loop-test .taken) (name-byte (c .before)) (omega arith) (c .wide .ensures .1)
+    pack-more (c .before .before .before .before .before .loop .inv) (c .before .before .before .before .loop-test .taken) (name-byte (c .before)) (omega arith) (c .byte-word .ensures .1)
 
 returns-2 : tie.Need-returns-2 Inv-loop μ-loop
 returns-2 c = (pack-full (c .before .loop .inv) (c .loop-test .left), c .before .loop .inv .value)
@@ -71,7 +71,7 @@ pack-run-spec =
     is-name-byte-requires
     returns
     mul-value
-    wide-requires
+    byte-word-requires
     add-value
     add-i
     loop-less

@@ -3,8 +3,8 @@ use Prim.Native.Nat.{_≤_}
 use native.Mathlib.Omega.{arith}
 use borrow.Author.Needs.{needs}
 use Rattle.reader.specs.Sections.{countOf, StepsRead, ReadsSteps, ReadsMachines, ReadsLines}
-use Rattle.reader.proofs.StepSection.{steps-found}
-use Rattle.reader.proofs.MachineSection.{machines-found, machines-refused}
+use Rattle.reader.proofs.step_lines.StepSection.{steps-found}
+use Rattle.reader.proofs.machine_lines.MachineSection.{machines-found, machines-refused}
 use Rattle.reader.proofs.Answering.{rows-refused, rows-passed}
 use Rattle.reader.proofs.read_lines.Statement.{statement}
 use Rattle.reader.proofs.read_lines.Tie as tie

@@ -41,8 +41,8 @@ place-len-requires-2 c κs = search needs
 add-both : tie.Need-add-both Inv-loop μ-loop
 add-both c = search needs
 
-is-on-requires : tie.Need-is-on-requires Inv-loop μ-loop
-is-on-requires c κs = search needs
+has-move-requires : tie.Need-has-move-requires Inv-loop μ-loop
+has-move-requires c κs = search needs
 
 add-moves : tie.Need-add-moves Inv-loop μ-loop
 add-moves c = search needs
@@ -63,7 +63,7 @@ loop-again : tie.Need-loop-again Inv-loop μ-loop
 loop-again c =
     let inv = c .before .before .before .before .before .before .before .loop .inv in
     let l = c .before .before .before .before .before .before .loop-test .taken in
-    let on = sym (c .before .is-on .ensures) in
+    let on = sym (c .before .has-move .ensures) in
     let a = c .before .before .before .before .place-len .ensures in
     let b = c .before .before .place-len2 .ensures in
     ⊎-elim (λ w. rw (w .1, w .2) (counted-add inv l (on ∙ w .0 .taken) (a .0) (b .0) (a .1) (b .1)))
@@ -111,7 +111,7 @@ event-len-spec =
     shared-slice-read-place-len
     place-len-requires-2
     add-both
-    is-on-requires
+    has-move-requires
     add-moves
     add-figures
     add-lane

@@ -1,0 +1,2 @@
+-- Bytes as a number, and names as two.
+pub mod Packing

@@ -1,0 +1,34 @@
+// Where a step line ends, by bit tricks of which nothing is proved but that they stay in range.
+ghost use Prim.Native.Nat.{_+_, _-_, _*_, _/_, _≤_};
+ghost use lib.ListN.{length};
+ghost use Rattle.model.specs.Bytes.{bytes};
+use super::words::little_endian;
+
+// How many of a word's bytes, from the lowest on, have bit 5.
+fn count_with_bit_5(word: u64) -> usize
+    ensures { λ r. ⌜ r ≤ 8 ⌝ }
+{
+    (u64::trailing_zeros(!word & 0x2020_2020_2020_2020) / 8) as usize
+}
+
+// x where the bit is 1, otherwise 0.
+fn only_if(bit: usize, x: usize) -> usize
+    requires { ⌜ (bit ≤ 1) × (x ≤ 8) ⌝ }
+    ensures { λ r. ⌜ r ≤ x ⌝ }
+{
+    bit * x
+}
+
+// How far from a position, at most 24, the line is guessed to end: at the first byte without bit 5. Byte 10 has none, all others of a step line have it.
+pub fn guess_end(s: &[u8], at: usize) -> usize
+    requires { ⌜ at + 24 ≤ length (now s) ⌝ }
+    ensures { λ r. ⌜ r ≤ 24 ⌝ }
+{
+    let first = count_with_bit_5(little_endian(s, at));
+    let second = count_with_bit_5(little_endian(s, at + 8));
+    let third = count_with_bit_5(little_endian(s, at + 16));
+    // each 1 where all bytes before that word have the bit
+    let to_second = first / 8;
+    let to_third = only_if(to_second, second / 8);
+    first + only_if(to_second, second) + only_if(to_third, third)
+}

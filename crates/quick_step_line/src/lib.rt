@@ -1,0 +1,150 @@
+// A step line read without a branch on its bytes. Where its words lie is guessed by bits, and the guess is verified byte by byte.
+ghost use mathlib.Core.Path.{_≡_};
+ghost use mathlib.Core.Bool.{true};
+ghost use Prim.Native.Nat.{_+_, _-_, _/_, _<_, _≤_};
+ghost use lib.ListN.{length};
+ghost use Rattle.model.specs.Bytes.{bytes};
+ghost use Rattle.model.proofs.Words.{Spans};
+ghost use Rattle.quick_step_line.specs.Quick.{ReadsQuickly, Framed};
+use figures::figure_at;
+use figures::figure_before;
+use guess::guess_end;
+use model::MAX_EVENTS;
+use names::hint;
+use names::hint_slot;
+use names::is_event;
+use names::name_size;
+use names::pack_name;
+use words::big_endian;
+use words::first_bytes;
+use words::pack_two;
+
+mod figures; // a figure from its first or its last byte
+mod guess; // where the line ends, by bit tricks
+mod names; // the name's event, by a table of hints
+mod words; // eight bytes of the text as one number
+
+// How many entries a table of hints has: for a name's numbers an event to try.
+pub const HINTS: usize = 1024;
+
+// A step line, verified; or nothing is known of it.
+pub enum QuickStep {
+    Unknown,
+    Found {
+        source: usize,
+        event: usize,
+        target: usize,
+        next: usize,
+    },
+}
+
+fn is_space(s: &[u8], at: usize) -> bool
+    requires { ⌜ at < length (now s) ⌝ }
+    ensures { λ r. ⌜ (r ≡ true → Spans (now (s .entry)) at (bytes " ") (at + 1)) ⌝ }
+{
+    s[at] == b' '
+}
+
+fn is_end(s: &[u8], at: usize) -> bool
+    requires { ⌜ at + 2 ≤ length (now s) ⌝ }
+    ensures { λ r. ⌜ (r ≡ true → Spans (now (s .entry)) at (bytes ")\n") (at + 2)) ⌝ }
+{
+    pack_two(s[at], s[at + 1]) == 0x290a
+}
+
+// The six bytes "(step " stand at a position.
+fn is_step(s: &[u8], at: usize) -> bool
+    requires { ⌜ at + 8 ≤ length (now s) ⌝ }
+    ensures { λ r. ⌜ (r ≡ true → Spans (now (s .entry)) at (bytes "(step ") (at + 6)) ⌝ }
+{
+    first_bytes(big_endian(s, at), 6) == 0x2873_7465_7020
+}
+
+// The bytes around the words of a step line: its name lies from one position to another, and byte 10 at `end`.
+fn is_framed(s: &[u8], at: usize, from: usize, to: usize, end: usize) -> bool
+    requires { ⌜ at + 8 ≤ length (now s) ⌝ }
+    requires { ⌜ (1 ≤ from) × (from ≤ length (now s)) ⌝ }
+    requires { ⌜ (1 ≤ end) × (end < length (now s)) ⌝ }
+    requires { ⌜ to < length (now s) ⌝ }
+    ensures { λ r. ⌜ (r ≡ true → Framed (now (s .entry)) at from to end) ⌝ }
+{
+    is_step(s, at) & is_space(s, from - 1) & is_space(s, to) & is_end(s, end - 1)
+}
+
+// The step line at a position with 40 bytes from there on, since words are read past the end of a line.
+fn verified_step<'a>(
+    s: &[u8],
+    at: usize,
+    n: usize,
+    len: &'a [usize; MAX_EVENTS],
+    high: &'a [u64; MAX_EVENTS],
+    low: &'a [u64; MAX_EVENTS],
+    count: usize,
+    hints: &'a [u8; HINTS],
+) -> QuickStep
+    requires { ⌜ at + 40 ≤ length (now s) ⌝ }
+    ensures { λ r. ⌜ ReadsQuickly (now (s .entry)) at n count (now («len» .entry)) (now («high» .entry)) (now («low» .entry)) r ⌝ }
+{
+    // byte 10 is the 13th byte of the shortest step line, and the 32nd of the longest
+    let end = at + 12 + guess_end(s, at + 12);
+    let next = end + 1;
+    let a = figure_at(s, at + 6);
+    let b = figure_before(s, end - 1);
+    let from = at + 7 + a.size;
+    let to = end - 2 - b.size;
+    let size = name_size(from, to);
+    let name = pack_name(s, from, size);
+    let k = hint(hints, name.high, name.low);
+    let formed = is_framed(s, at, from, to, end) & a.found & b.found;
+    let named = is_event(len, high, low, k, size, name.high, name.low);
+    let declared = (a.value < n) & (b.value < n) & (k < count);
+    if formed & named & declared {
+        return QuickStep::Found {
+            source: a.value,
+            event: k,
+            target: b.value,
+            next,
+        };
+    }
+    QuickStep::Unknown
+}
+
+// The step line at a position, if the hints lead to its event and its words are declared.
+pub fn read_step_quickly<'a>(
+    s: &[u8],
+    at: usize,
+    n: usize,
+    len: &'a [usize; MAX_EVENTS],
+    high: &'a [u64; MAX_EVENTS],
+    low: &'a [u64; MAX_EVENTS],
+    count: usize,
+    hints: &'a [u8; HINTS],
+) -> QuickStep
+    ensures { λ r. ⌜ ReadsQuickly (now (s .entry)) at n count (now («len» .entry)) (now («high» .entry)) (now («low» .entry)) r ⌝ }
+{
+    if s.len() < 40 {
+        return QuickStep::Unknown;
+    }
+    if s.len() - 40 < at {
+        return QuickStep::Unknown;
+    }
+    verified_step(s, at, n, len, high, low, count, hints)
+}
+
+// Hints that lead from each name's numbers to its event, or to another whose numbers have the same entry.
+pub fn fill_hints<'a>(
+    high: &'a [u64; MAX_EVENTS],
+    low: &'a [u64; MAX_EVENTS],
+    count: usize,
+    hints: &mut [u8; HINTS],
+)
+    requires { ⌜ count ≤ 64 ⌝ }
+    ensures { λ _. ⌜ length (now (hints .exit)) ≡ length (now (hints .entry)) ⌝ }
+{
+    let mut k = 0;
+    while k < count {
+        let slot = hint_slot(high[k], low[k]);
+        hints[slot] = k as u8;
+        k += 1;
+    }
+}

@@ -1,0 +1,2 @@
+-- The loop over machine lines.
+pub mod MachineSection

@@ -1,0 +1,2 @@
+-- The loop over step lines.
+pub mod StepSection

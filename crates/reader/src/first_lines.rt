@@ -1,0 +1,107 @@
+// The first two lines of a text: how many states, and the names of the events.
+ghost use mathlib.Core.Path.{_≡_};
+ghost use Prim.Native.Nat.{_<_};
+ghost use Rattle.lines.specs.Lines.{eventRows};
+ghost use Rattle.reader.specs.Sections.{StatesRead, noNames, ReadsEvents, FirstRead};
+use super::names::distinct_names;
+use crate::Section;
+use lexer::Word;
+use lines::read_events;
+use lines::read_states;
+use model::MAX_EVENTS;
+use model::MAX_STATES;
+use model::MAX_TEXT;
+use model::Refusal;
+
+// How many states a text has, if it and they are within the limits, and the position after their line.
+fn declared_states(s: &[u8]) -> Section
+    ensures { λ r. ⌜ StatesRead (now (s .entry)) r ⌝ }
+{
+    if MAX_TEXT < s.len() {
+        return Section::Refused(Refusal::LimitExceeded { line: 0 });
+    }
+    let Word::Found { value: n, next } = read_states(s, 0) else {
+        return Section::Refused(Refusal::Malformed { line: 1 });
+    };
+    if n < 1 {
+        return Section::Refused(Refusal::LimitExceeded { line: 1 });
+    }
+    if MAX_STATES < n {
+        return Section::Refused(Refusal::LimitExceeded { line: 1 });
+    }
+    Section::Read { count: n, next }
+}
+
+// The names of the events line at a position, into rows of 0.
+fn declared_events(
+    s: &[u8],
+    at: usize,
+    spot: &mut [usize; MAX_EVENTS],
+    len: &mut [usize; MAX_EVENTS],
+    high: &mut [u64; MAX_EVENTS],
+    low: &mut [u64; MAX_EVENTS],
+) -> Section
+    requires { ⌜ eventRows (now spot) (now «len») (now «high») (now «low») ≡ noNames ⌝ }
+    ensures { λ r. ⌜ ReadsEvents (now (s .entry)) at r (eventRows (now (spot .exit)) (now («len» .exit)) (now («high» .exit)) (now («low» .exit))) ⌝ }
+{
+    let names = read_events(s, at, spot, len, high, low);
+    let formed = names.formed;
+    let count = names.count;
+    if !formed {
+        return Section::Refused(Refusal::Malformed { line: 2 });
+    }
+    if MAX_EVENTS < count {
+        return Section::Refused(Refusal::LimitExceeded { line: 2 });
+    }
+    if !distinct_names(len, high, low, count) {
+        return Section::Refused(Refusal::Undeclared { line: 2 });
+    }
+    Section::Read {
+        count,
+        next: names.next,
+    }
+}
+
+// What the first two lines declare: how many states and events, and the position after them.
+pub struct Declared {
+    pub states: usize,
+    pub events: usize,
+    pub next: usize,
+}
+
+pub enum FirstLines {
+    Refused(Refusal),
+    Read(Declared),
+}
+
+// The first two lines of a text, the names into rows of 0.
+pub fn read_first_lines(
+    s: &[u8],
+    spot: &mut [usize; MAX_EVENTS],
+    len: &mut [usize; MAX_EVENTS],
+    high: &mut [u64; MAX_EVENTS],
+    low: &mut [u64; MAX_EVENTS],
+) -> FirstLines
+    requires { ⌜ eventRows (now spot) (now «len») (now «high») (now «low») ≡ noNames ⌝ }
+    ensures { λ r. ⌜ FirstRead (now (s .entry)) r (eventRows (now (spot .exit)) (now («len» .exit)) (now («high» .exit)) (now («low» .exit))) ⌝ }
+{
+    match declared_states(s) {
+        Section::Refused(why) => FirstLines::Refused(why),
+        Section::Read {
+            count: states,
+            next: at,
+        } => {
+            match declared_events(s, at, spot, len, high, low) {
+                Section::Refused(why) => FirstLines::Refused(why),
+                Section::Read {
+                    count: events,
+                    next,
+                } => FirstLines::Read(Declared {
+                    states,
+                    events,
+                    next,
+                }),
+            }
+        }
+    }
+}
