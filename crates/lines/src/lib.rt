@@ -335,15 +335,15 @@ fn has_row(places: usize, declared: bool) -> bool
     false
 }
 
-// The machine line at a position, against n states. Each state starts unplaced.
+// The machine line at a position, against n states. Each state starts unplaced, before the line is read.
 pub fn read_machine(s: &[u8], at: usize, n: usize) -> MachineLine
     requires { ⌜ n ≤ 256 ⌝ }
     ensures { λ r. ⌜ r ≡ asMachine n (machineLine (now (s .entry)) at) ⌝ }
 {
+    let mut row = [UNPLACED; 256];
     let Word::Found { value: _, next: a } = read_literal(s, at, b"(machine") else {
         return without_row(false, 0, false, 0);
     };
-    let mut row = [UNPLACED; 256];
     let start = Marks {
         declared: true,
         duplicate: NO_STATE,

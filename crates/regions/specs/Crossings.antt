@@ -10,8 +10,10 @@ use Rattle.model.specs.Machine.{Machine, placeOf, nonuniformEvent}
 use Rattle.model.specs.Machine as M
 use Rattle.model.proofs.Bounds.{Within}
 use Rattle.model.proofs.Places.{Placed}
+use Rattle.rows.specs.declared.Counts.{Counts}
 use Rattle.rows.specs.Told.{entry, firstTransitions, below}
-use Rattle.regions.specs.declared.Crossing.{Crossing}
+use Rattle.regions.specs.declared.crossings.Crossing.{Crossing}
+use Rattle.regions.specs.Indexed.{Indexed}
 use Rattle.regions.specs.Moves.{moveAt, MoveRows}
 
 -- transition k through machine m, by the rows
@@ -27,6 +29,7 @@ agreeing a b = cond (eqb (a .pre) (a .post)) (eqb (b .pre) (b .post)) (eqb (a .p
 unfoldable pub preMark : Crossing → ℕ
 preMark a = cond (eqb (a .pre) (a .post)) 255 (a .pre)
 
+-- the rows that crossings are read from
 pub record RowSizes (source target place : List ℕ) : Type 0 where
   pub sources : length source ≡ 1024
   pub targets : length target ≡ 1024
@@ -45,6 +48,12 @@ pub record Scanned (ts : TransitionSystem) (m : Machine) (k : ℕ) (pre post : L
   pub most : r ≤ ts .events
   pub event : below (ts .events) r ≡ nonuniformEvent ts m
   pub moves : (e : ℕ) → e < r → moveAt pre post k e ≡ M.move ts m e
+
+-- whatever row of events the chains are made from
+abbrev pub ScannedAlong : Counts → List ℕ → List ℕ → List ℕ → List ℕ → List ℕ → ℕ → List ℕ → List ℕ → ℕ → Type 0
+ScannedAlong c source target place first next k pre post r =
+    (event : List ℕ) (ts : TransitionSystem) (m : Machine) → Indexed event (c .transitions) first next → Scannable ts m k source event target place (c .transitions)
+    → c .events ≡ ts .events → Scanned ts m k pre post r
 
 -- the moves on the machines before k are as they were
 pub record EarlierKept (k : ℕ) (pre post pre2 post2 : List ℕ) : Type 0 where

@@ -1,5 +1,5 @@
 -- The transitions of each event as a chain of positions.
-use Prim.Native.Nat.{ℕ, zero, suc, _-_, _<_}
+use Prim.Native.Nat.{ℕ, zero, suc, _-_, _<_, _≤_}
 use mathlib.Core.Path.{_≡_}
 use mathlib.Core.Bool.{cond}
 use mathlib.Core.List.{List}
@@ -16,20 +16,16 @@ nextIn event e k (suc j) = cond (eqb (entry event k) e) k (nextIn event e (suc k
 abbrev pub nextOf : List ℕ → ℕ → ℕ → ℕ → ℕ
 nextOf event n e k = nextIn event e k (n - k)
 
--- the first transition of each event
-pub record Firsts (event : List ℕ) (n : ℕ) (first : List ℕ) : Type 0 where
-  pub size : length first ≡ 64
-  pub starts : (e : ℕ) → e < 64 → entry first e ≡ nextOf event n e 0
-
--- and after each transition the next of its event
+-- the first transition of each event, and after each transition the next of its event
 pub record Indexed (event : List ℕ) (n : ℕ) (first next : List ℕ) : Type 0 where
-  pub firsts : Firsts event n first
-  pub next-size : length next ≡ 1024
+  pub first-size : length first ≡ 64
+  pub room : n ≤ length next
+  pub starts : (e : ℕ) → e < 64 → entry first e ≡ nextOf event n e 0
   pub follows : (k : ℕ) → k < n → entry next k ≡ nextOf event n (entry event k) (suc k)
 
 -- a walk along the chain of an event has a beginning and an end
 pub record Chained (n events : ℕ) (first next : List ℕ) : Type 0 where
   pub first-size : length first ≡ 64
-  pub next-size : length next ≡ 1024
+  pub room : n ≤ length next
   pub begins : (e : ℕ) → e < events → entry first e < n
   pub rises : (k : ℕ) → k < n → k < entry next k

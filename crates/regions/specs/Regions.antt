@@ -15,17 +15,17 @@ use Rattle.rows.specs.Tables.{verdictRefusal, tablesIn}
 use Rattle.rows.specs.Told.{systemOf, MachinesTold}
 use Rattle.rows.specs.Bounded.{Bounded}
 use Rattle.regions.specs.Moves.{MoveRows, MovesTold}
+use Rattle.regions.specs.Indexed.{Indexed}
+use Rattle.regions.specs.Crossings.{RowSizes}
 
 -- the tables but for names and sizes, which no check here reads
 abbrev pub rowsOf : Counts → List ℕ → List ℕ → List ℕ → List ℕ → List ℕ → Tables
 rowsOf c source event target duplicate place = tablesIn c [] [] source event target [] duplicate place
 
 pub record RowLengths (source event target duplicate place : List ℕ) : Type 0 where
-  pub sources : length source ≡ 1024
+  pub crossed : RowSizes source target place
   pub events : length event ≡ 1024
-  pub targets : length target ≡ 1024
   pub duplicates : length duplicate ≡ 16
-  pub places : length place ≡ 4096
 
 -- past 1 to 7
 pub record Checkable (c : Counts) (source event target duplicate place pre post : List ℕ) : Type 0 where
@@ -46,7 +46,19 @@ RegionsTold c source event target duplicate place r pre post =
     (ats lens sizes : List ℕ) → Bounded (tablesIn c ats lens source event target sizes duplicate place)
     → Answer (tablesIn c ats lens source event target sizes duplicate place) r pre post
 
+-- the functions above the chains have no row of events: what they ask and answer is said of the rows that the chains are made from
+
+-- past 1 to 7, and the chains are made from a row of events
+pub record CheckableAlong (c : Counts) (source target duplicate place first next pre post : List ℕ) : Type 0 where
+  pub event : List ℕ
+  pub checkable : Checkable c source event target duplicate place pre post
+  pub chains : Indexed event (c .transitions) first next
+
+abbrev pub ToldAlong : Counts → List ℕ → List ℕ → List ℕ → List ℕ → List ℕ → List ℕ → Verdict → List ℕ → List ℕ → Type 0
+ToldAlong c source target duplicate place first next r pre post =
+    (event : List ℕ) → Indexed event (c .transitions) first next → RegionsTold c source event target duplicate place r pre post
+
 -- the answer yes says that all machines pass; after no the rows of moves are of no use
-pub record PassesAtOnce (c : Counts) (source event target duplicate place : List ℕ) (r : Bool) (pre post : List ℕ) : Type 0 where
+pub record PassesAtOnce (c : Counts) (source target duplicate place first next : List ℕ) (r : Bool) (pre post : List ℕ) : Type 0 where
   pub rows : MoveRows pre post
-  pub passed : r ≡ true → RegionsTold c source event target duplicate place Passed pre post
+  pub passed : r ≡ true → ToldAlong c source target duplicate place first next Passed pre post

@@ -73,7 +73,7 @@ filled-sized v =
     }
 
 pub row-lengths : {p : Tables} → Sized p → RowLengths (p .source) (p .event) (p .target) (p .duplicate) (p .place)
-row-lengths z = record { sources = z .sources; events = z .events; targets = z .targets; duplicates = z .duplicates; places = z .places }
+row-lengths z = record { crossed = record { sources = z .sources; targets = z .targets; places = z .places }; events = z .events; duplicates = z .duplicates }
 
 -- the text passes 1 to 3, and these rows are filled
 module _ {s : List ℕ} {r : Verdict} {c : Counts} {ats lens sources events targets sizes duplicates places : List ℕ} (h : verdictRefusal r ≡ refusalOf (read s)) (e : r ≡ Passed)

@@ -27,7 +27,7 @@ system-passes c = sym (checked c .check-transition-system .ensures .0) ∙ lets-
 check-transition-system-requires : tie.Need-check-transition-system-requires
 check-transition-system-requires c κs =
     let (b, (lengths, moves, excitations)) = c .before .before .before .before .before .before .before .before .before .pre in
-    ((system-bounded b, excitations), (omega (arith, b .transitions, lengths .sources), omega (arith, b .transitions, lengths .events), omega (arith, b .transitions, lengths .targets)))
+    ((system-bounded b, excitations), (omega (arith, b .transitions, lengths .crossed .sources), omega (arith, b .transitions, lengths .events), omega (arith, b .transitions, lengths .crossed .targets)))
 
 enum-known-system : tie.Need-enum-known-system
 enum-known-system c = search needs

@@ -1,0 +1,3 @@
+-- The moves of first transitions, and that all machines pass.
+pub mod Putting
+pub mod AtOnce
