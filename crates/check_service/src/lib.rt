@@ -1,10 +1,7 @@
 // The service Check and sheet. It takes any bytes, and its contract is an equation with the model's definition of it.
 ghost use mathlib.Core.Path.{_≡_};
-ghost use lib.ListN.{length};
 ghost use Rattle.model.specs.Services as Services;
-ghost use Rattle.rows.specs.Bounded.{NamesInside};
-ghost use Rattle.regions.specs.Moves.{MoveRows};
-ghost use Rattle.sheet.specs.Rows.{SheetBounds};
+ghost use Rattle.sheet.specs.Rows.{SheetReady};
 ghost use Rattle.answers.specs.Answers.{answered};
 ghost use Rattle.check_service.specs.Handed.{HandsOver};
 use answers::Answer;
@@ -35,7 +32,7 @@ fn hand_over<'a>(
     post: &[u8],
     out: &mut [u8],
 ) -> Answer
-    requires { ⌜ SheetBounds c (now «name_len») (now sizes) (now place) × (length (now «name_at») ≡ 64) × MoveRows (now pre) (now post) × NamesInside (now text) (now «name_at») (now «name_len») (c .events) ⌝ }
+    requires { ⌜ SheetReady (now text) c (now «name_at») (now «name_len») (now sizes) (now place) (now pre) (now post) ⌝ }
     ensures { λ r. ⌜ HandsOver (now (text .entry)) c (now («name_at» .entry)) (now («name_len» .entry)) (now (sizes .entry)) (now (place .entry)) (now (pre .entry)) (now (post .entry)) (now (out .entry)) r (now (out .exit)) ⌝ }
 {
     let lent = out.len();

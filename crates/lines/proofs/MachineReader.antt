@@ -14,12 +14,13 @@ use Rattle.model.proofs.Laws.{and-l}
 use Rattle.lexer.proofs.Loops.{many-more, many-none}
 use Rattle.lines.specs.Lines.{allBelow, hasRow, withoutRow, noMachine, machineRow, asMachine}
 use Rattle.lines.specs.Marking.{Marking, PlacesFound, PlacesRead}
-use Rattle.lines.specs.declared.Marks.{Marks}
-use Rattle.lines.specs.declared.Places.{Places}
-use Rattle.lines.specs.declared.Places.the-variants as P
+use Rattle.lines.specs.declared.marks.Marks.{Marks}
+use Rattle.lines.specs.declared.marks.Places.{Places}
+use Rattle.lines.specs.declared.marks.Places.the-variants as P
 use Rattle.lines.specs.declared.MachineLine.{MachineLine}
-use Rattle.lines.proofs.Filling.{declared-places, Unmarked, filled-places}
-use Rattle.lines.proofs.PlaceReader.{moves-place}
+use Rattle.lines.proofs.marks.Marked.{declared-places}
+use Rattle.lines.proofs.marks.Filling.{Unmarked, filled-places}
+use Rattle.lines.proofs.marks.PlaceReader.{moves-place}
 
 -- what is read after the places ps, at their end
 closing : List ℕ → List Place → ℕ → Parsed Line

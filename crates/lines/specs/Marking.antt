@@ -10,11 +10,11 @@ use Rattle.model.specs.Bytes.{Name, bytes, starts}
 use Rattle.model.specs.Reading.{Parsed, fail, got, Reader, _>>=_, _>>_, give, lit, figure, items}
 use Rattle.model.specs.Form.{spacedFigure}
 use Rattle.lines.specs.declared.Names.{Names}
-use Rattle.lines.specs.declared.Marks.{Marks}
-use Rattle.lines.specs.declared.PlaceAt as A
-use Rattle.lines.specs.declared.PlaceAt.the-variants as P
-use Rattle.lines.specs.declared.Places as L
-use Rattle.lines.specs.declared.Places.the-variants as M
+use Rattle.lines.specs.declared.marks.Marks.{Marks}
+use Rattle.lines.specs.declared.marks.PlaceAt as A
+use Rattle.lines.specs.declared.marks.PlaceAt.the-variants as P
+use Rattle.lines.specs.declared.marks.Places as L
+use Rattle.lines.specs.declared.marks.Places.the-variants as M
 
 unfoldable pub asNames : List Name × ℕ → Names
 asNames r = record { count = length (r .0); next = r .1 }

@@ -9,6 +9,7 @@ use Rattle.rows.specs.declared.Tables.{Tables}
 use Rattle.rows.specs.Tables.{tablesIn}
 use Rattle.rows.specs.Told.{entry}
 use Rattle.rows.specs.Bounded.{NamesInside}
+use Rattle.regions.specs.Moves.{MoveRows}
 use Rattle.sheet.specs.Written.{rowSheet}
 
 -- of the bounds of `Bounded` those that a sheet needs, and the sizes of the rows
@@ -26,6 +27,15 @@ pub record SheetBounds (c : Counts) (lens sizes places : List ℕ) : Type 0 wher
 -- the rows that a sheet looks at
 abbrev pub sheetRows : Counts → List ℕ → List ℕ → List ℕ → List ℕ → Tables
 sheetRows c ats lens sizes places = tablesIn c ats lens [] [] [] sizes [] places
+
+-- all that a sheet is made of is at hand
+abbrev pub SheetReady : List ℕ → Counts → List ℕ → List ℕ → List ℕ → List ℕ → List ℕ → List ℕ → Type 0
+SheetReady s c ats lens sizes places pre post =
+    SheetBounds c lens sizes places × (length ats ≡ 64) × MoveRows pre post × NamesInside s ats lens (c .events)
+
+-- how many bytes the sheet has
+abbrev pub sheetSize : List ℕ → Counts → List ℕ → List ℕ → List ℕ → List ℕ → List ℕ → List ℕ → ℕ
+sheetSize s c ats lens sizes places pre post = length (rowSheet s (sheetRows c ats lens sizes places) pre post)
 
 -- the length of the sheet, of any text that has names of these lengths
 abbrev pub SheetLength : Counts → List ℕ → List ℕ → List ℕ → List ℕ → List ℕ → ℕ → Type 0

@@ -5,7 +5,7 @@ use Rattle.model.specs.Bytes.{bytes, digits, Name}
 use Rattle.model.specs.Sheet.{EventMove, SheetLine, addMove, writtenMove, writtenLine}
 use Rattle.rows.specs.declared.Tables.{Tables}
 use Rattle.rows.specs.Told.{entry}
-use Rattle.rows.specs.Names.{rowNames}
+use Rattle.rows.specs.Names.{namesIn, rowNames}
 use Rattle.regions.specs.Moves.{moveAt}
 
 -- what stands before the moves of a machine
@@ -39,6 +39,10 @@ rowLines p pre post (suc n) = rowLines p pre post n ++ (rowLine p pre post n ∷
 -- the moves of the events on machine k, as bytes
 unfoldable pub movesBytes : List Name → List ℕ → List ℕ → ℕ → ℕ → List ℕ
 movesBytes names pre post k n = flatMap (writtenMove names) (rowMoves pre post k n)
+
+-- the same with the names that the text has
+abbrev pub namedMoves : List ℕ → List ℕ → List ℕ → List ℕ → List ℕ → ℕ → ℕ → List ℕ
+namedMoves s ats lens pre post k events = movesBytes (namesIn s ats lens events) pre post k events
 
 unfoldable pub rowSheet : List ℕ → Tables → List ℕ → List ℕ → List ℕ
 rowSheet s p pre post =

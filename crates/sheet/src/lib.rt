@@ -10,11 +10,10 @@ ghost use Rattle.rows.specs.Told.{entry};
 ghost use Rattle.rows.specs.Bounded.{NamesInside};
 ghost use Rattle.regions.specs.Moves.{MoveRows};
 ghost use Rattle.writers.specs.Written.{Writes};
-ghost use Rattle.sheet.specs.Written.{headBytes, placesBytes, movesBytes, rowSheet};
-ghost use Rattle.rows.specs.Names.{namesIn};
+ghost use Rattle.sheet.specs.Written.{headBytes, placesBytes, namedMoves};
 ghost use Rattle.sheet.specs.Lengths.{eventLength, movesLength, headsLength};
 ghost use Rattle.sheet.specs.Within.{WritesWithin};
-ghost use Rattle.sheet.specs.Rows.{SheetBounds, SheetLength, SheetLeft, sheetRows};
+ghost use Rattle.sheet.specs.Rows.{SheetBounds, SheetReady, sheetSize, SheetLength, SheetLeft};
 use model::MAX_MACHINES;
 use model::MAX_PLACES;
 use model::MAX_STATES;
@@ -220,8 +219,8 @@ fn write_moves<'a>(
 ) -> usize
     requires { ⌜ (m < 16) × (events ≤ 64) × (length (now ats) ≡ 64) × (length (now lens) ≡ 64) × MoveRows (now pre) (now post) ⌝ }
     requires { ⌜ ((e : ℕ) → e < events → entry (now lens) e ≤ 16) × NamesInside (now text) (now ats) (now lens) events ⌝ }
-    requires { ⌜ (at + length (movesBytes (namesIn (now text) (now ats) (now lens) events) (now pre) (now post) m events) ≤ size) × (size ≤ length (now out)) ⌝ }
-    ensures { λ r. ⌜ WritesWithin (movesBytes (namesIn (now (text .entry)) (now (ats .entry)) (now (lens .entry)) events) (now (pre .entry)) (now (post .entry)) m events) at size (now (out .entry)) r (now (out .exit)) ⌝ }
+    requires { ⌜ (at + length (namedMoves (now text) (now ats) (now lens) (now pre) (now post) m events) ≤ size) × (size ≤ length (now out)) ⌝ }
+    ensures { λ r. ⌜ WritesWithin (namedMoves (now (text .entry)) (now (ats .entry)) (now (lens .entry)) (now (pre .entry)) (now (post .entry)) m events) at size (now (out .entry)) r (now (out .exit)) ⌝ }
 {
     let mut i = at;
     let mut e = 0;
@@ -263,8 +262,8 @@ pub fn write_sheet<'a>(
     out: &mut [u8],
     size: usize,
 )
-    requires { ⌜ SheetBounds c (now lens) (now sizes) (now place) × (length (now ats) ≡ 64) × MoveRows (now pre) (now post) × NamesInside (now text) (now ats) (now lens) (c .events) ⌝ }
-    requires { ⌜ (size ≡ length (rowSheet (now text) (sheetRows c (now ats) (now lens) (now sizes) (now place)) (now pre) (now post))) × (size ≤ length (now out)) ⌝ }
+    requires { ⌜ SheetReady (now text) c (now ats) (now lens) (now sizes) (now place) (now pre) (now post) ⌝ }
+    requires { ⌜ (size ≡ sheetSize (now text) c (now ats) (now lens) (now sizes) (now place) (now pre) (now post)) × (size ≤ length (now out)) ⌝ }
     ensures { λ _. ⌜ SheetLeft (now (text .entry)) c (now (ats .entry)) (now (lens .entry)) (now (sizes .entry)) (now (place .entry)) (now (pre .entry)) (now (post .entry)) (now (out .entry)) (now (out .exit)) ⌝ }
 {
     let machines = c.machines;

@@ -1,11 +1,8 @@
 // A text read and checked as far as a row of document 01's table: what a service begins with.
 ghost use mathlib.Core.Path.{_≡_};
-ghost use mathlib.Core.List.{[]};
 ghost use Rattle.rows.specs.Tables.{tablesIn};
 ghost use Rattle.rows.specs.Bounded.{Bounded};
 ghost use Rattle.reader.specs.Lent.{FreshRows};
-ghost use Rattle.transition_system.specs.Sets.{Excitations};
-ghost use Rattle.regions.specs.Moves.{MoveRows};
 ghost use Rattle.regions.specs.Regions.{rowsOf, RowLengths};
 ghost use Rattle.stages.specs.Order.{ChecksRows};
 ghost use Rattle.stages.specs.Stages.{ReadAsFarAs7, Fresh, ReadAsFarAs10, ReadAsFarAs12};
@@ -39,7 +36,7 @@ fn check_as_far_as_10<'a>(
     excited: &mut [u64],
 ) -> Verdict
     requires { ⌜ Bounded (rowsOf c (now source) (now event) (now target) (now duplicate) (now place)) ⌝ }
-    requires { ⌜ RowLengths (now source) (now event) (now target) (now duplicate) (now place) × MoveRows (now pre) (now post) × Excitations [] (now excited) ⌝ }
+    requires { ⌜ RowLengths (now source) (now event) (now target) (now duplicate) (now place) × Fresh (now pre) (now post) (now excited) ⌝ }
     ensures { λ r. ⌜ ChecksRows c (now (source .entry)) (now (event .entry)) (now (target .entry)) (now (duplicate .entry)) (now (place .entry)) (now (pre .exit)) (now (post .exit)) (now (excited .exit)) r ⌝ }
 {
     let system = check_transition_system(c, source, event, target, excited);

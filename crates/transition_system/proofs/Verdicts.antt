@@ -23,7 +23,7 @@ use Rattle.rows.proofs.Searches.{below-in, below-out}
 use Rattle.rows.proofs.Fronts.{within-tables}
 use Rattle.state_set.specs.Rows.{memberAt}
 use Rattle.state_set.proofs.Rows.{empty-row}
-use Rattle.transition_system.specs.Sets.{Excitations, joins, Has, Successors, Closed, SetsOf}
+use Rattle.transition_system.specs.Sets.{Unused, Unreached, Excitations, joins, Has, Successors, Closed, SetsOf}
 
 -- a fresh row has the successors of no transition
 pub no-successors : (n : ℕ) → Successors [] (replicate n 0)
@@ -39,14 +39,6 @@ abbrev Checks : Tables → Verdict → List ℕ → Type 0
 Checks p v excited = (verdictRefusal v ≡ systemRefusal (systemOf p)) × (verdictRefusal v ≡ none → Excitations (systemOf p .transitions) excited)
 
 -- what the searches for 6 and 7 answer, of n events, and of n states from an initial one
-abbrev Unused : List ℕ → ℕ → ℕ → Type 0
-Unused excited n x =
-    (ts : TransitionSystem) → Within ts → ts .states ≤ 256 → ts .events ≡ n → Excitations (ts .transitions) excited → below n x ≡ unusedEvent ts
-
-abbrev Unreached : List ℕ → ℕ → ℕ → ℕ → Type 0
-Unreached successors i n x =
-    (ts : TransitionSystem) → Within ts → ts .states ≡ n → ts .initial ≡ i → Successors (ts .transitions) successors → below n x ≡ unreachableState ts
-
 -- 4 and 5 answer v, and leave the sets
 module _
     {p : Tables} (b : Bounded p) {v : Verdict} {excited successors : List ℕ}

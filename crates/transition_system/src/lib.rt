@@ -6,13 +6,12 @@ ghost use Prim.Native.Nat.{ℕ, suc, _*_, _<_, _≤_};
 ghost use lib.Dec.{T};
 ghost use lib.ListN.{length};
 ghost use Rattle.model.specs.Lists.{index};
-ghost use Rattle.model.specs.TransitionSystem.{TransitionSystem, leads, transitionRefusal, transitionsRefusal, unusedEvent, unreachableState, systemRefusal};
-ghost use Rattle.model.proofs.Bounds.{Within};
+ghost use Rattle.model.specs.TransitionSystem.{TransitionSystem, leads, transitionsRefusal, systemRefusal};
 ghost use Rattle.rows.specs.Tables.{verdictRefusal};
-ghost use Rattle.rows.specs.Told.{transitionAt, firstTransitions, systemOf, below};
+ghost use Rattle.rows.specs.Told.{firstTransitions, systemOf};
 ghost use Rattle.rows.specs.Bounded.{Bounded};
 ghost use Rattle.state_set.specs.Member.{member};
-ghost use Rattle.transition_system.specs.Sets.{Excitations, Has, Successors, Closed, Image, SetsOf, InRows, systemRows};
+ghost use Rattle.transition_system.specs.Sets.{Excitations, Has, Successors, Closed, nextRefusal, Unused, Unreached, Image, SetsOf, InRows, systemRows};
 ghost use Rattle.transition_system.specs.Reaches.{Reaches};
 use model::Refusal;
 use rows::Counts;
@@ -68,7 +67,7 @@ fn add_transition<'a>(
 ) -> Verdict
     requires { ⌜ InRows (now source) (now event) (now target) (now successors) k ⌝ }
     requires { ⌜ SetsOf (firstTransitions (now source) (now event) (now target) k) (now excited) (now successors) ⌝ }
-    ensures { λ r. ⌜ verdictRefusal r ≡ transitionRefusal (firstTransitions (now (source .entry)) (now (event .entry)) (now (target .entry)) k) (transitionAt (now (source .entry)) (now (event .entry)) (now (target .entry)) k) ⌝ }
+    ensures { λ r. ⌜ verdictRefusal r ≡ nextRefusal (now (source .entry)) (now (event .entry)) (now (target .entry)) k ⌝ }
     ensures { λ r. ⌜ (verdictRefusal r ≡ none → SetsOf (firstTransitions (now (source .entry)) (now (event .entry)) (now (target .entry)) (suc k)) (now (excited .exit)) (now (successors .exit))) ⌝ }
 {
     let s = source[k];
@@ -116,7 +115,7 @@ fn add_transitions<'a>(
 // 6: the lowest event with no transition, which is one that no state excites; the count of events if there is none.
 fn unused_event(excited: &[u64], events: usize) -> usize
     requires { ⌜ (length (now excited) ≡ 256) × (events ≤ 64) ⌝ }
-    ensures { λ r. ⌜ ((ts : TransitionSystem) → Within ts → ts .states ≤ 256 → ts .events ≡ events → Excitations (ts .transitions) (now (excited .entry)) → below events r ≡ unusedEvent ts) ⌝ }
+    ensures { λ r. ⌜ Unused (now (excited .entry)) events r ⌝ }
 {
     let mut e = 0;
     while e < events {
@@ -164,7 +163,7 @@ fn reached(successors: &[u64], initial: u8) -> StateSet
 // 7: the lowest of n states that is not reached; n if there is none.
 fn unreached_state(successors: &[u64], initial: u8, n: usize) -> usize
     requires { ⌜ Closed (now successors) × Has (now successors) initial × (n ≤ 256) ⌝ }
-    ensures { λ r. ⌜ ((ts : TransitionSystem) → Within ts → ts .states ≡ n → ts .initial ≡ initial → Successors (ts .transitions) (now (successors .entry)) → below n r ≡ unreachableState ts) ⌝ }
+    ensures { λ r. ⌜ Unreached (now (successors .entry)) initial n r ⌝ }
 {
     match lowest(without(StateSet::FULL, reached(successors, initial))) {
         Found::Nothing => n,

@@ -7,7 +7,7 @@ use borrow.Author.Tests.{not-true, not-false}
 use denote.Ref.{now}
 use lib.ListN.{replicate, length-replicate, getD-replicate}
 use Rattle.lexer.proofs.Answers.{literal-missing, literal-got}
-use Rattle.lines.proofs.Filling.{Unmarked}
+use Rattle.lines.proofs.marks.Filling.{Unmarked}
 use Rattle.lines.proofs.MachineReader.{Headed, Listed, Ended, headless, broken, no-places, unclosed, past, placed, no-machine, places-broken, places-found}
 use Rattle.lines.proofs.read_machine.Statement.{statement}
 use Rattle.lines.proofs.read_machine.Tie as tie

@@ -48,7 +48,7 @@ use denote.Triple.Clauses.{ensured, lasts}
 use denote.Triple.Table.{entered, cited}
 use denote.Triple.Walked.{says, needs, Stays, stay-slice, stay-none, stay-none-slice, walkOf, goes-slice, goes-none, goes-none-slice, Walks, ends-at, walked, walk-meets}
 use denote.Exit.{yes}
-use Rattle.walks.proofs.Entry.{atStart, starts}
+use Rattle.hand_proofs.proofs.Entry.{atStart, starts}
 use Rattle.listing.specs.Records.{recordAt, firstRecords, filled}
 use Rattle.listing.proofs.Filling.{length-filled, filled-more}
 use Rattle.model.specs.declared.Transition.{Transition}
@@ -284,7 +284,7 @@ module _ {M : Type 1} (𝓤 : URA M) (H : Heap 𝓤) (A : Atoms 𝓤) (W : Given
   fill-meets : Meets 𝓤 H A fill.signature (WpFn 𝓤 H (𝓣 .C) (𝓣 .Λ) code.function) (fill.spec 𝓤 H A mem run)
   fill-meets =
       walk-meets 𝓤 H A fill.ended stayed W (goes-slice 𝓤 H A W 2 0 tt (plain (λ _. S.the-row)), (goes-none-slice 𝓤 H A W 2 (1 ∷ []) tt (plain (λ _. u8)) yes, (goes-none 𝓤 H A W 2 (λ _. usize) yes (λ κs x f. refl), tt))) (fill.clauses 𝓤 H A mem run)
-      (WpFn 𝓤 H (𝓣 .C) (𝓣 .Λ) code.function) (WpFn-mono 𝓤 H (W .laws) 𝓣 code.function) fill-walks
+      (WpFn 𝓤 H (𝓣 .C) (𝓣 .Λ) code.function) (WpFn-mono 𝓤 H (W .laws) 𝓣 code.function) fill-hand_proofs
 
 pub fill-spec : {M : Type 1} → stated.statement M
 unfolding code.routine tablesOf

@@ -26,8 +26,8 @@ system-passes c = sym (checked c .check-transition-system .ensures .0) ∙ lets-
 
 check-transition-system-requires : tie.Need-check-transition-system-requires
 check-transition-system-requires c κs =
-    let (b, (lengths, moves, excitations)) = c .before .before .before .before .before .before .before .before .before .pre in
-    ((system-bounded b, excitations), (omega (arith, b .transitions, lengths .crossed .sources), omega (arith, b .transitions, lengths .events), omega (arith, b .transitions, lengths .crossed .targets)))
+    let (b, (lengths, fresh)) = c .before .before .before .before .before .before .before .before .before .pre in
+    ((system-bounded b, fresh .excitations), (omega (arith, b .transitions, lengths .crossed .sources), omega (arith, b .transitions, lengths .events), omega (arith, b .transitions, lengths .crossed .targets)))
 
 enum-known-system : tie.Need-enum-known-system
 enum-known-system c = search needs
@@ -44,8 +44,8 @@ enum-told c = search needs
 check-regions-requires : tie.Need-check-regions-requires
 check-regions-requires c κs =
     let past = c .before .before in
-    let (b, (lengths, moves, _)) = entered (checked past) .pre in
-    record { bounded = b; used = rows-used b (system-passes past); lengths = lengths; rows = moves }
+    let (b, (lengths, fresh)) = entered (checked past) .pre in
+    record { bounded = b; used = rows-used b (system-passes past); lengths = lengths; rows = fresh .moves }
 
 same-length-2 : tie.Need-same-length-2
 same-length-2 c = search needs

@@ -26,7 +26,7 @@ check-as-far-as-10-requires c κs =
     let r = t .before .before .read-rows in
     let fresh = t .before .before .before .before .before .before .before .before .before .before .before .before .before .before .before .pre .1 in
     let held = rows-held (r .ensures .0) (t .enum-told2 .given .1) (r .ensures .1) in
-    (rows-bounded (held .bounds), (row-lengths (held .sized), fresh .moves, fresh .excitations))
+    (rows-bounded (held .bounds), (row-lengths (held .sized), fresh))
 
 same-length : tie.Need-same-length
 same-length c = search needs

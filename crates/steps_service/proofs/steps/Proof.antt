@@ -49,9 +49,9 @@ use denote.Exit.{yes}
 use Rattle.model.specs.declared.Transition.{Transition}
 use Rattle.model.proofs.Transition as S
 use Rattle.listing.specs.Records.{filled}
-use Rattle.walks.proofs.Entry.{atStart, starts}
-use Rattle.walks.proofs.Constants.{big-lit}
-use Rattle.walks.proofs.Arrays.{Row, row-in, row-cells, cells-row, row-out}
+use Rattle.hand_proofs.proofs.Entry.{atStart, starts}
+use Rattle.hand_proofs.proofs.Constants.{big-lit}
+use Rattle.hand_proofs.proofs.Arrays.{Row, row-in, row-cells, cells-row, row-out}
 use Rattle.listing.proofs.fill as fill
 use Rattle.listing.proofs.fill.Symbol as fill-def
 use Rattle.listing.proofs.fill.Symbol.{name as #listing·fill}
@@ -389,7 +389,7 @@ module _ {M : Type 1} (𝓤 : URA M) (H : Heap 𝓤) (A : Atoms 𝓤) (W : Given
   steps-meets : Meets 𝓤 H A steps.signature (WpFn 𝓤 H (𝓣 .C) (𝓣 .Λ) code.function) (steps.spec 𝓤 H A mem′ run)
   steps-meets =
       walk-meets 𝓤 H A steps.ended stayed W (goes-none-slice 𝓤 H A W 2 (0 ∷ []) tt (plain (λ _. u8)) yes, (goes-gave-slice 𝓤 H A W 2 1 tt (plain (λ _. S.the-row)), tt)) (steps.clauses 𝓤 H A mem′ run)
-      (WpFn 𝓤 H (𝓣 .C) (𝓣 .Λ) code.function) (WpFn-mono 𝓤 H (W .laws) 𝓣 code.function) steps-walks
+      (WpFn 𝓤 H (𝓣 .C) (𝓣 .Λ) code.function) (WpFn-mono 𝓤 H (W .laws) 𝓣 code.function) steps-hand_proofs
 
 pub steps-spec : {M : Type 1} → stated.statement M
 unfolding code.routine tablesOf

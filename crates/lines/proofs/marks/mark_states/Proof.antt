@@ -12,8 +12,8 @@ use Rattle.lexer.proofs.Answers.{figure-missing, figure-got}
 use Rattle.lexer.proofs.Loops.{Items, items-none, items-more, items-end}
 use Rattle.lexer.proofs.Moves.{moves-spaced-figure}
 use Rattle.lines.specs.Marking.{Marking, marking, markedAll}
-use Rattle.lines.proofs.mark_states.Statement.{statement}
-use Rattle.lines.proofs.mark_states.Tie as tie
+use Rattle.lines.proofs.marks.mark_states.Statement.{statement}
+use Rattle.lines.proofs.marks.mark_states.Tie as tie
 
 -- the marking and the position after the figures
 abbrev end : ℕ → ℕ → Marking → List ℕ × ℕ → Marking × ℕ

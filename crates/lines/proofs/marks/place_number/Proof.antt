@@ -1,9 +1,9 @@
 -- `lines::place_number` meets its contract.
 use mathlib.Core.Path.{sym}
 use borrow.Author.Needs.{needs}
-use Rattle.lines.proofs.Filling.{own-number, past-number}
-use Rattle.lines.proofs.place_number.Statement.{statement}
-use Rattle.lines.proofs.place_number.Tie as tie
+use Rattle.lines.proofs.marks.Marked.{own-number, past-number}
+use Rattle.lines.proofs.marks.place_number.Statement.{statement}
+use Rattle.lines.proofs.marks.place_number.Tie as tie
 
 cast-result : tie.Need-cast-result
 cast-result c = search needs

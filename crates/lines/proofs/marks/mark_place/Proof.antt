@@ -9,9 +9,9 @@ use Rattle.model.specs.Reading.{fail, got, litBytes, figure, many}
 use Rattle.model.specs.Form.{spacedFigure}
 use Rattle.lexer.proofs.Answers.{literal-missing, literal-got, figure-missing, figure-got}
 use Rattle.lines.specs.Marking.{Marking, marking, markedAll, opened, PlaceFound, PlaceRead}
-use Rattle.lines.specs.declared.Marks.{Marks}
-use Rattle.lines.proofs.mark_place.Statement.{statement}
-use Rattle.lines.proofs.mark_place.Tie as tie
+use Rattle.lines.specs.declared.marks.Marks.{Marks}
+use Rattle.lines.proofs.marks.mark_place.Statement.{statement}
+use Rattle.lines.proofs.marks.mark_place.Tie as tie
 
 bare : (s : List ℕ) (at : ℕ) → figure s at ≡ fail → opened s at ≡ fail
 unfolding opened

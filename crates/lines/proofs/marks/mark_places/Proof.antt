@@ -13,12 +13,12 @@ use Rattle.model.specs.Form.{place}
 use Rattle.lexer.proofs.Answers.{literal-missing, literal-got}
 use Rattle.lexer.proofs.Loops.{Items, items-none, items-more, items-end}
 use Rattle.lines.specs.Marking.{Marking, marking, markedAll, markedPlaces, upTo64, opened, PlaceFound, PlaceRead, PlacesFound, PlacesRead}
-use Rattle.lines.specs.declared.Marks.{Marks}
-use Rattle.lines.specs.declared.PlaceAt.{PlaceAt}
-use Rattle.lines.specs.declared.PlaceAt.the-variants as P
-use Rattle.lines.proofs.PlaceReader.{moves-place, Bracket, place-none, place-opened, bracket-starts}
-use Rattle.lines.proofs.mark_places.Statement.{statement}
-use Rattle.lines.proofs.mark_places.Tie as tie
+use Rattle.lines.specs.declared.marks.Marks.{Marks}
+use Rattle.lines.specs.declared.marks.PlaceAt.{PlaceAt}
+use Rattle.lines.specs.declared.marks.PlaceAt.the-variants as P
+use Rattle.lines.proofs.marks.PlaceReader.{moves-place, Bracket, place-none, place-opened, bracket-starts}
+use Rattle.lines.proofs.marks.mark_places.Statement.{statement}
+use Rattle.lines.proofs.marks.mark_places.Tie as tie
 
 -- the marking, the number of places and the position after them
 abbrev end : ℕ → Marking × ℕ → List Place × ℕ → Marking × ℕ × ℕ

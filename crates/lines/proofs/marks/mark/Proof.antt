@@ -1,9 +1,9 @@
 -- `lines::mark` meets its contract: each way out is a case of `marked`.
 use mathlib.Core.Path.{sym}
 use borrow.Author.Needs.{needs}
-use Rattle.lines.proofs.Filling.{marked-out, marked-fresh, marked-lower, marked-same}
-use Rattle.lines.proofs.mark.Statement.{statement}
-use Rattle.lines.proofs.mark.Tie as tie
+use Rattle.lines.proofs.marks.Marked.{marked-out, marked-fresh, marked-lower, marked-same}
+use Rattle.lines.proofs.marks.mark.Statement.{statement}
+use Rattle.lines.proofs.marks.mark.Tie as tie
 
 returns : tie.Need-returns
 returns c = sym (marked-out _ _ _ _ (c .if1 .taken))
