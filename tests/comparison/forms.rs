@@ -46,6 +46,12 @@ fn names() -> Vec<String> {
     texts
 }
 
+/// A step's name with bytes 0 behind it, up to one over the bound: it is no name, though it looks like a shorter one that is padded.
+fn ended_by_zero() -> Vec<String> {
+    let padded = |n: usize| (1..=17 - n).map(move |zeros| ("x".repeat(n), "\0".repeat(zeros)));
+    (1..=16).flat_map(padded).map(|(name, end)| with_names(vec![name.clone()], &[name.clone() + &end, name])).collect()
+}
+
 /// What stands in TINY for one of its lines, parted by bars: no bytes at first, then what breaks the form otherwise
 /// than by one byte, then two faults on one line or on two.
 const FOR_STATES: &str = "|()|(states)|(states )|(states 3 4)|(states (3))|(states three)|(State 3)|(states 3\0)|\
@@ -106,6 +112,6 @@ fn beginnings() -> Vec<String> {
 }
 
 pub fn all() -> Vec<Vec<u8>> {
-    let whole = [beginnings(), figures(), names(), forms(), doubled()].concat();
+    let whole = [beginnings(), figures(), names(), ended_by_zero(), forms(), doubled()].concat();
     whole.into_iter().map(String::into_bytes).chain(nearby(TINY.as_bytes())).collect()
 }
