@@ -1,7 +1,10 @@
 -- `check_service::check` meets its contract: each answer is a law of `Checking` at what the calls have said.
 use mathlib.Core.Path.{sym}
+use denote.Ref.{now}
 use borrow.Author.Needs.{needs}
+use Rattle.rows.specs.Tables.{tablesIn}
 use Rattle.sheet.proofs.Told.{sheet-bounds}
+use Rattle.stages.specs.Stages.{Judged}
 use Rattle.stages.proofs.Stages.{fresh, fresh-rows, refused-text, past-text}
 use Rattle.check_service.proofs.Checking.{check-refused, check-passed}
 use Rattle.check_service.proofs.check.Statement.{statement}
@@ -10,6 +13,15 @@ use Rattle.check_service.proofs.check.Tie as tie
 -- from the place where the text has passed back to where it was read
 abbrev read : tie.After-enum-told → tie.After-read-as-far-as-12
 read c = c .before .before .before .before .before
+
+-- the text has passed
+judged : (c : tie.After-enum-told)
+    → let l = read c .read-as-far-as-12 .last .1 in
+    let m = l .1 .1 .1 .1 .1 .1 .1 .1 in
+    Judged (now (read c .before .before .before .before .before .before .before .before .before .before .before .before .before .before .args .text))
+    (tablesIn (read c .read-as-far-as-12 .result .counts) (l .0) (l .1 .0) (l .1 .1 .0) (l .1 .1 .1 .0) (l .1 .1 .1 .1 .0) (l .1 .1 .1 .1 .1 .0) (l .1 .1 .1 .1 .1 .1 .0) (l .1 .1 .1 .1 .1 .1 .1 .0))
+    (m .0) (m .1 .0) (m .1 .1 .0)
+judged c = past-text (read c .read-as-far-as-12 .ensures) (c .enum-told .given .1)
 
 slice-aggregate-read-as-far-as-12 : tie.Need-slice-aggregate-read-as-far-as-12
 slice-aggregate-read-as-far-as-12 c = search needs
@@ -35,22 +47,22 @@ enum-told c = search needs
 slice-aggregate-hand-over : tie.Need-slice-aggregate-hand-over
 slice-aggregate-hand-over c =
     let past = c .before .before in
-    sym (past-text (read past .read-as-far-as-12 .ensures) (past .enum-told .given .1) .past .held .sized .name-places)
+    sym (judged past .past .held .sized .name-places)
 
 slice-aggregate-hand-over-2 : tie.Need-slice-aggregate-hand-over-2
 slice-aggregate-hand-over-2 c =
     let past = c .before .before .before in
-    sym (past-text (read past .read-as-far-as-12 .ensures) (past .enum-told .given .1) .past .held .sized .name-lengths)
+    sym (judged past .past .held .sized .name-lengths)
 
 slice-aggregate-hand-over-3 : tie.Need-slice-aggregate-hand-over-3
 slice-aggregate-hand-over-3 c =
     let past = c .before .before .before .before in
-    sym (past-text (read past .read-as-far-as-12 .ensures) (past .enum-told .given .1) .past .held .sized .place-counts)
+    sym (judged past .past .held .sized .place-counts)
 
 slice-aggregate-hand-over-4 : tie.Need-slice-aggregate-hand-over-4
 slice-aggregate-hand-over-4 c =
     let past = c .before .before .before .before .before in
-    sym (past-text (read past .read-as-far-as-12 .ensures) (past .enum-told .given .1) .past .held .sized .places)
+    sym (judged past .past .held .sized .places)
 
 slice-aggregate-hand-over-5 : tie.Need-slice-aggregate-hand-over-5
 slice-aggregate-hand-over-5 c = search needs
@@ -61,7 +73,7 @@ slice-aggregate-hand-over-6 c = search needs
 hand-over-requires : tie.Need-hand-over-requires
 hand-over-requires c κs =
     let past = c .before .before .before .before .before .before .before .before in
-    let j = past-text (read past .read-as-far-as-12 .ensures) (past .enum-told .given .1) in
+    let j = judged past in
     let z = j .past .held .sized in
     (sheet-bounds _ _ _ _ _ _ _ _ _ (j .past .held .bounds) (z .name-lengths) (z .place-counts) (z .places), z .name-places, j .past .cover .moves .rows, j .past .held .names)
 
@@ -71,7 +83,7 @@ same-length c = search needs
 returns-2 : tie.Need-returns-2
 returns-2 c =
     let past = c .before .before .before .before .before .before .before .before .before .before .before in
-    check-passed (past-text (read past .read-as-far-as-12 .ensures) (past .enum-told .given .1)) _ _ _ (c .before .before .hand-over .ensures _ _ _ _)
+    check-passed (judged past) _ _ _ (c .before .before .hand-over .ensures _ _ _ _)
 
 pub check-spec : {M : Type 1} → statement M
 check-spec =
