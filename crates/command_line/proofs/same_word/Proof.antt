@@ -1,11 +1,11 @@
--- `command_line::same` meets its contract: each way out is a law of `Spelling`.
+-- `command_line::same_word` meets its contract: each way out is a law of `Spelling`.
 use Prim.Native.Nat.{ℕ}
 use mathlib.Core.List.{List}
 use borrow.Author.Needs.{needs}
 use denote.Ref.{now}
 use Rattle.command_line.proofs.Spelling.{unequal, unlike, alike}
-use Rattle.command_line.proofs.same.Statement.{statement}
-use Rattle.command_line.proofs.same.Tie as tie
+use Rattle.command_line.proofs.same_word.Statement.{statement}
+use Rattle.command_line.proofs.same_word.Tie as tie
 
 -- the two words
 abbrev one : tie.After-shared-slice-known2 → List ℕ
@@ -36,5 +36,5 @@ returns-3 c =
     let e = c .before .before .before .before in
     alike (one e) (other e) (c .before .before .read-literal .ensures) (c .enum-told .given .1) (c .before .before .before .if1 .left)
 
-pub same-spec : {M : Type 1} → statement M
-same-spec = tie.close (tie.spec returns read-literal-requires enum-told enum-told-2 returns-2 returns-3)
+pub same-word-spec : {M : Type 1} → statement M
+same-word-spec = tie.close (tie.spec returns read-literal-requires enum-told enum-told-2 returns-2 returns-3)

@@ -1,0 +1,4 @@
+-- The laws behind the program's answers.
+
+-- what is left to be printed, by what the words say
+pub mod Saying

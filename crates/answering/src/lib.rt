@@ -1,0 +1,93 @@
+// What the program answers to the words of its command line and the text on its standard input.
+ghost use mathlib.Core.Path.{_≡_};
+ghost use lib.ListN.{length};
+ghost use Rattle.printing.specs.Shown.{Shows};
+ghost use Rattle.command_line.specs.declared.Service.the-variants.{Check, Steps, Name, Run, Thin};
+ghost use Rattle.command_line.specs.WordRow.{wordsIn};
+ghost use Rattle.command_line.specs.Program.{answerBy, answerTo, outputOf};
+use command_line::Said;
+use command_line::Service;
+use command_line::second_word;
+use command_line::service_asked;
+use command_line::size_said;
+use model::MAX_TEXT;
+use model::MAX_TRANSITIONS;
+use printing::print_check;
+use printing::print_steps;
+use printing::print_thin;
+
+// The words after the service lie in a row, each ended by byte 0. What is printed stands at the beginning of the buffer, so many bytes; none if the
+// words ask for nothing that can be answered.
+
+fn answer_check(words: &[u8], text: &[u8], out: &mut [u8]) -> usize
+    requires { ⌜ length (now out) ≡ 32768 ⌝ }
+    ensures { λ r. ⌜ Shows (outputOf (answerBy Check (wordsIn (now (words .entry))) (now (text .entry)))) r (now (out .exit)) ⌝ }
+{
+    let Said::Number(lent) = size_said(words, MAX_TEXT) else {
+        return 0;
+    };
+    print_check(text, lent, out)
+}
+
+fn answer_steps(words: &[u8], text: &[u8], out: &mut [u8]) -> usize
+    requires { ⌜ length (now out) ≡ 32768 ⌝ }
+    ensures { λ r. ⌜ Shows (outputOf (answerBy Steps (wordsIn (now (words .entry))) (now (text .entry)))) r (now (out .exit)) ⌝ }
+{
+    let Said::Number(lent) = size_said(words, MAX_TRANSITIONS) else {
+        return 0;
+    };
+    print_steps(text, lent, out)
+}
+
+fn answer_name(words: &[u8], text: &[u8], out: &mut [u8]) -> usize
+    requires { ⌜ ⊥ ⌝ }
+    requires { ⌜ length (now out) ≡ 32768 ⌝ }
+    ensures { λ r. ⌜ Shows (outputOf (answerBy Name (wordsIn (now (words .entry))) (now (text .entry)))) r (now (out .exit)) ⌝ }
+{
+    0
+}
+
+// The events take the place of the words.
+fn answer_run(words: &mut [u8], text: &[u8], out: &mut [u8]) -> usize
+    requires { ⌜ ⊥ ⌝ }
+    requires { ⌜ length (now out) ≡ 32768 ⌝ }
+    ensures { λ r. ⌜ Shows (outputOf (answerBy Run (wordsIn (now (words .entry))) (now (text .entry)))) r (now (out .exit)) ⌝ }
+{
+    0
+}
+
+fn answer_thin(words: &[u8], text: &[u8], out: &mut [u8]) -> usize
+    requires { ⌜ length (now out) ≡ 32768 ⌝ }
+    ensures { λ r. ⌜ Shows (outputOf (answerBy Thin (wordsIn (now (words .entry))) (now (text .entry)))) r (now (out .exit)) ⌝ }
+{
+    if words.len() > 0 {
+        return 0;
+    }
+    print_thin(text, out)
+}
+
+fn answer_by(asked: Service, words: &mut [u8], text: &[u8], out: &mut [u8]) -> usize
+    requires { ⌜ length (now out) ≡ 32768 ⌝ }
+    ensures { λ r. ⌜ Shows (outputOf (answerBy asked (wordsIn (now (words .entry))) (now (text .entry)))) r (now (out .exit)) ⌝ }
+{
+    match asked {
+        Service::Check => answer_check(words, text, out),
+        Service::Steps => answer_steps(words, text, out),
+        Service::Name => answer_name(words, text, out),
+        Service::Run => answer_run(words, text, out),
+        Service::Thin => answer_thin(words, text, out),
+        Service::Help => 0,
+        Service::Explain => 0,
+        Service::Unknown => 0,
+    }
+}
+
+// Any words and any text. The row of words is written over.
+pub fn answer(words: &mut [u8], text: &[u8], out: &mut [u8]) -> usize
+    requires { ⌜ length (now out) ≡ 32768 ⌝ }
+    ensures { λ r. ⌜ Shows (outputOf (answerTo (wordsIn (now (words .entry))) (now (text .entry)))) r (now (out .exit)) ⌝ }
+{
+    let asked = service_asked(words);
+    let at = second_word(words);
+    answer_by(asked, &mut words[at..], text, out)
+}
