@@ -2,3 +2,5 @@
 
 -- what is left to be printed, by what the words say
 pub mod Saying
+-- the names that count, and what they leave open
+pub mod Knowing

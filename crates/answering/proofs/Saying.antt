@@ -15,7 +15,7 @@ use Rattle.command_line.specs.declared.Said.the-variants.{Neither, Number}
 use Rattle.command_line.specs.declared.Service.{Service}
 use Rattle.command_line.specs.declared.Service.the-variants.{Check, Thin}
 use Rattle.command_line.specs.Words.{said}
-use Rattle.command_line.specs.WordRow.{wordsIn}
+use Rattle.command_line.specs.WordRow.{wordsIn, listSaid, Lists}
 use Rattle.command_line.specs.Program.{sizeSaid, answerThin, answerBy, answerTo, outputOf, serviceAsked, furtherWords}
 use Rattle.command_line.proofs.Cutting.{Some, words, no-words, some-words}
 
@@ -85,3 +85,12 @@ asked-as ws s e = ap (λ (x : Service). answerBy x ws s) (sym e)
 -- the words from a place on
 pub words-from : (row : List ℕ) (at : ℕ) {vs : List (List ℕ)} → wordsIn (drop at row) ≡ vs → wordsIn (take (length row - at) (drop at row)) ≡ vs
 words-from row at e = ap wordsIn (take-all (length row - at) (drop at row) (omega (arith, length-drop at row))) ∙ e
+
+-- words are a list of numbers, or none
+pub lists-none : {r : Said} {o : Option (List ℕ)} {row : List ℕ} → r ≡ Neither → Lists o r row → none ≡ o
+unfolding listSaid
+lists-none {row = row} e l = sym (ap (λ (x : Said). listSaid x row) e) ∙ l .list
+
+pub lists-some : {r : Said} {k : ℕ} {o : Option (List ℕ)} {row : List ℕ} → r ≡ Number k → Lists o r row → some (take k row) ≡ o
+unfolding listSaid
+lists-some {row = row} e l = sym (ap (λ (x : Said). listSaid x row) e) ∙ l .list

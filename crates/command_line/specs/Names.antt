@@ -8,6 +8,6 @@ use Rattle.rows.specs.Bounded.{NamesInside}
 -- so many names lie in the text
 pub record NameRows (s ats lens : List ℕ) (events : ℕ) : Type 0 where
   pub most : events ≤ 64
-  pub at-size : length ats ≡ 64
-  pub len-size : length lens ≡ 64
+  pub at-size : events ≤ length ats
+  pub len-size : events ≤ length lens
   pub inside : NamesInside s ats lens events

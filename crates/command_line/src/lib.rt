@@ -5,7 +5,6 @@ ghost use Prim.Native.Nat.{ℕ, _≤_, _<_, min};
 ghost use lib.ListN.{length, drop};
 ghost use Rattle.model.specs.Bytes.{sameName, decimal};
 ghost use Rattle.model.specs.Text.{eventNumber};
-ghost use Rattle.rows.specs.Bounded.{NamesInside};
 ghost use Rattle.rows.specs.Names.{namesIn};
 ghost use Rattle.command_line.specs.Words.{sameWord, serviceSaid, isNumeral, isNameWord, said, numberSaid, eventSaid};
 ghost use Rattle.command_line.specs.WordRow.{wordsIn, WordCut, Lists};
@@ -160,7 +159,7 @@ fn event_named<'a>(
     events: usize,
     word: &[u8],
 ) -> usize
-    requires { ⌜ (events ≤ 64) × (length (now ats) ≡ 64) × (length (now lens) ≡ 64) × NamesInside (now text) (now ats) (now lens) events ⌝ }
+    requires { ⌜ NameRows (now text) (now ats) (now lens) events ⌝ }
     ensures { λ r. ⌜ r ≡ eventNumber (namesIn (now (text .entry)) (now (ats .entry)) (now (lens .entry)) events) (now (word .entry)) ⌝ }
 {
     let mut e = 0;

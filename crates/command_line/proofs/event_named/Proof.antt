@@ -36,7 +36,7 @@ word c = now (c .before .before .before .before .before .before .args .word)
 
 -- the name lies in the text
 inside : (c : tie.In-loop Inv-loop μ-loop) → entry (ats c) (c .before .loop .e) + entry (lens c) (c .before .loop .e) ≤ length (text c)
-inside c = name-inside (text c) (ats c) (lens c) (c .before .before .before .before .before .before .pre .3) (c .before .loop .e) (c .loop-test .taken)
+inside c = name-inside (text c) (ats c) (lens c) (c .before .before .before .before .before .before .pre .inside) (c .before .loop .e) (c .loop-test .taken)
 
 loop-holds : tie.Need-loop-holds Inv-loop μ-loop
 loop-holds c = upto-start
