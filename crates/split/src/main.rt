@@ -6,6 +6,7 @@ ghost use lib.ListN.{length};
 ghost use Rattle.io.specs.Counts.{Counts};
 ghost use Rattle.writers.specs.Written.{Writes};
 ghost use Rattle.split.specs.Gathered.{Fits};
+use answering::answer;
 use command_line::Said;
 use command_line::Service;
 use command_line::second_word;
@@ -25,17 +26,6 @@ const TEXT_ROOM: usize = MAX_TEXT + 1;
 // Linux by default hands over no more than 2 MB of words.
 const MANY_WORDS: usize = 2097152;
 
-ghost use Rattle.printing.specs.Shown.{Shows};
-ghost use Rattle.command_line.specs.WordRow.{wordsIn};
-ghost use Rattle.command_line.specs.Program.{answerTo, outputOf};
-fn answer(words: &mut [u8], text: &[u8], out: &mut [u8]) -> usize
-    requires { ⌜ ⊥ ⌝ }
-    requires { ⌜ length (now out) ≡ 32768 ⌝ }
-    ensures { λ r. ⌜ Shows (outputOf (answerTo (wordsIn (now (words .entry))) (now (text .entry)))) r (now (out .exit)) ⌝ }
-{
-    0
-}
-
 // The words in a row, so many bytes of it.
 enum Gathered {
     Words(usize),
@@ -46,6 +36,7 @@ enum Gathered {
 fn put_word(word: &[u8], row: &mut [u8], at: usize) -> usize
     requires { ⌜ at + length (now word) < length (now row) ⌝ }
     ensures { λ r. ⌜ Writes (now (word .entry) ++ (0 ∷ [])) at (now (row .entry)) r (now (row .exit)) ⌝ }
+    ensures { λ r. ⌜ r ≤ length (now (row .exit)) ⌝ }
 {
     let end = write_bytes(word, row, at);
     write_bytes(b"\0", row, end)

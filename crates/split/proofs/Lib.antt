@@ -1,0 +1,4 @@
+-- The laws behind the program.
+
+-- rows of their length, and what lies in them
+pub mod Lengths
