@@ -107,9 +107,9 @@ module _ {s : List ℕ} {end : ℕ} (c : WordCut s 0 end) where
 
   -- ---- what is asked
 
-  pub asks-first : {r : Service} → (length s ≡ 0 → ⊥) → r ≡ serviceSaid (take end s) → r ≡ serviceAsked (wordsIn s)
+  pub asks-first : {r : Service} → 0 < length s → r ≡ serviceSaid (take end s) → r ≡ serviceAsked (wordsIn s)
   unfolding serviceAsked
-  asks-first h e = e ∙ sym (ap serviceAsked (first (omega (arith, h))))
+  asks-first h e = e ∙ sym (ap serviceAsked (first h))
 
   pub further-behind : end < length s → wordsIn (drop (end + 1) s) ≡ furtherWords (wordsIn s)
   unfolding furtherWords

@@ -213,11 +213,11 @@ fn word_end(words: &[u8], at: usize) -> usize
 pub fn service_asked(words: &[u8]) -> Service
     ensures { λ r. ⌜ r ≡ serviceAsked (wordsIn (now (words .entry))) ⌝ }
 {
-    if words.len() == 0 {
-        return Service::Check;
+    if words.len() > 0 {
+        let end = word_end(words, 0);
+        return service_said(&words[..end]);
     }
-    let end = word_end(words, 0);
-    service_said(&words[..end])
+    Service::Check
 }
 
 // Where the words after the first begin.

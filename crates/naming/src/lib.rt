@@ -63,8 +63,8 @@ pub fn name_in_plan(plan: CheckedPlan, text: &[u8], event: usize) -> NamePart
     ensures { λ r. ⌜ Named (now (text .entry)) event r ⌝ }
 {
     let verdict = plan.verdict;
-    if let Verdict::Refused(why) = verdict {
-        return no_part(why);
+    if let Verdict::Refused(reason) = verdict {
+        return no_part(reason);
     }
     let tables = plan.tables;
     let events = tables.counts.events;

@@ -65,8 +65,8 @@ pub fn run_in_split(split: CheckedSplit, text: &[u8], events: &[u8]) -> RunAnswe
     ensures { λ r. ⌜ runAnswer r ≡ Services.run (now (text .entry)) (now (events .entry)) ⌝ }
 {
     let verdict = split.verdict;
-    if let Verdict::Refused(why) = verdict {
-        return refused(why);
+    if let Verdict::Refused(reason) = verdict {
+        return refused(reason);
     }
     let tables = split.tables;
     let counts = tables.counts;

@@ -42,7 +42,7 @@ fn put_word(word: &[u8], row: &mut [u8], at: usize) -> usize
     write_bytes(b"\0", row, end)
 }
 
-// The words after the program's own name, which is word 0. One that is missing or longer than 4,095 bytes reads as an empty one.
+// The words after the program's own name, which is word 0. One that is missing or has more than 4,096 bytes reads as an empty one.
 fn gather(words: usize, row: &mut [u8]) -> Gathered
     ensures { λ r. ⌜ Fits r (now (row .exit)) ⌝ }
 {
