@@ -6,7 +6,11 @@ pub mod Spelling
 pub mod Counting
 -- a word that is a name
 pub mod WholeNames
--- the names that a text declares
+-- the event that a word names
 pub mod Declaring
 -- what a word says
 pub mod Saying
+-- words in one row of bytes
+pub mod Cutting
+-- the events that they say, in the same row
+pub mod Taking

@@ -1,28 +1,35 @@
 -- What the words of a command line say. A figure or a name is as document 01 has it, but for the number of digits: a size has more than three.
 use Prim.Native.Nat.{ℕ, min}
-use mathlib.Core.Bool.{Bool, not, cond, _&&_, _||_}
-use mathlib.Core.List.{List}
+use mathlib.Core.Bool.{Bool, true, false, not, cond, _&&_, _||_}
+use mathlib.Core.List.{List, [], _∷_}
 use mathlib.Core.Option.{Option, none, some}
 use lib.Dec.{leb, eqb}
 use lib.ListN.{length, getD}
 use Rattle.model.specs.Lists.{every}
 use Rattle.model.specs.Bytes as B
-use Rattle.model.specs.Bytes.{bytes, isDigit, isNameByte, isName, decimal, sameName}
+use Rattle.model.specs.Bytes.{bytes, isDigit, isNameByte, isName, decimal}
 use Rattle.model.specs.Text.{eventNumber}
 use Rattle.command_line.specs.declared.Service.{Service}
 use Rattle.command_line.specs.declared.Service.the-variants.{Check, Steps, Name, Run, Thin, Help, Explain, Unknown}
 use Rattle.command_line.specs.declared.Said.{Said}
 use Rattle.command_line.specs.declared.Said.the-variants.{Neither, Number}
 
+-- the same bytes, whatever makes two names one event
+abbrev pub sameWord : List ℕ → List ℕ → Bool
+sameWord [] [] = true
+sameWord [] (b ∷ v) = false
+sameWord (a ∷ w) [] = false
+sameWord (a ∷ w) (b ∷ v) = eqb a b && sameWord w v
+
 unfoldable pub serviceSaid : List ℕ → Service
 serviceSaid w =
-    cond (sameName w (bytes "check")) Check
-    (cond (sameName w (bytes "steps")) Steps
-    (cond (sameName w (bytes "name")) Name
-    (cond (sameName w (bytes "run")) Run
-    (cond (sameName w (bytes "thin")) Thin
-    (cond (sameName w (bytes "help")) Help
-    (cond (sameName w (bytes "explain")) Explain Unknown))))))
+    cond (sameWord w (bytes "check")) Check
+    (cond (sameWord w (bytes "steps")) Steps
+    (cond (sameWord w (bytes "name")) Name
+    (cond (sameWord w (bytes "run")) Run
+    (cond (sameWord w (bytes "thin")) Thin
+    (cond (sameWord w (bytes "help")) Help
+    (cond (sameWord w (bytes "explain")) Explain Unknown))))))
 
 -- one or more digits with no leading zero, 0 itself excepted
 unfoldable pub isNumeral : List ℕ → Bool

@@ -2,22 +2,21 @@
 ghost use mathlib.Core.Path.{_≡_};
 ghost use mathlib.Core.Option.{some};
 ghost use Prim.Native.Nat.{ℕ, _≤_, _<_, min};
-ghost use lib.ListN.{length};
+ghost use lib.ListN.{length, drop};
 ghost use Rattle.model.specs.Bytes.{sameName, decimal};
 ghost use Rattle.model.specs.Text.{eventNumber};
-ghost use Rattle.rows.specs.Bounded.{NamesInside};
 ghost use Rattle.rows.specs.Names.{namesIn};
-ghost use Rattle.command_line.specs.Words.{serviceSaid, isNumeral, isNameWord, said, numberSaid, eventSaid};
-ghost use Rattle.command_line.specs.Names.{Declares, declaredNames};
+ghost use Rattle.command_line.specs.Words.{sameWord, serviceSaid, isNumeral, isNameWord, said, numberSaid, eventSaid};
+ghost use Rattle.command_line.specs.WordRow.{wordsIn, WordCut, Lists};
+ghost use Rattle.command_line.specs.Program.{serviceAsked, furtherWords, sizeSaid, oneEventSaid, eventsSaid};
+ghost use Rattle.command_line.specs.Names.{NameRows};
 use lexer::NameWord;
 use lexer::Word;
 use lexer::digit;
 use lexer::is_digit;
 use lexer::read_literal;
 use lexer::read_name;
-use model::MAX_EVENTS;
-use rows::Verdict;
-use stages::check_plan;
+use rows::narrow;
 
 pub enum Service {
     Check,
@@ -37,8 +36,8 @@ pub enum Said {
 }
 
 // Are the two the same bytes.
-fn same(a: &[u8], b: &[u8]) -> bool
-    ensures { λ r. ⌜ r ≡ sameName (now (a .entry)) (now (b .entry)) ⌝ }
+fn same_word(a: &[u8], b: &[u8]) -> bool
+    ensures { λ r. ⌜ r ≡ sameWord (now (a .entry)) (now (b .entry)) ⌝ }
 {
     if a.len() != b.len() {
         return false;
@@ -49,28 +48,35 @@ fn same(a: &[u8], b: &[u8]) -> bool
     true
 }
 
-pub fn service_said(word: &[u8]) -> Service
+// Are the two one event; today the same bytes.
+fn same_name(a: &[u8], b: &[u8]) -> bool
+    ensures { λ r. ⌜ r ≡ sameName (now (a .entry)) (now (b .entry)) ⌝ }
+{
+    same_word(a, b)
+}
+
+fn service_said(word: &[u8]) -> Service
     ensures { λ r. ⌜ r ≡ serviceSaid (now (word .entry)) ⌝ }
 {
-    if same(word, b"check") {
+    if same_word(word, b"check") {
         return Service::Check;
     }
-    if same(word, b"steps") {
+    if same_word(word, b"steps") {
         return Service::Steps;
     }
-    if same(word, b"name") {
+    if same_word(word, b"name") {
         return Service::Name;
     }
-    if same(word, b"run") {
+    if same_word(word, b"run") {
         return Service::Run;
     }
-    if same(word, b"thin") {
+    if same_word(word, b"thin") {
         return Service::Thin;
     }
-    if same(word, b"help") {
+    if same_word(word, b"help") {
         return Service::Help;
     }
-    if same(word, b"explain") {
+    if same_word(word, b"explain") {
         return Service::Explain;
     }
     Service::Unknown
@@ -119,7 +125,7 @@ fn value(word: &[u8], most: usize) -> usize
 }
 
 // A number, or `most` where it is more: so large a number means no more than `most` does.
-pub fn number_said(word: &[u8], most: usize) -> Said
+fn number_said(word: &[u8], most: usize) -> Said
     requires { ⌜ most ≤ 65535 ⌝ }
     ensures { λ r. ⌜ said r ≡ numberSaid most (now (word .entry)) ⌝ }
 {
@@ -153,14 +159,14 @@ fn event_named<'a>(
     events: usize,
     word: &[u8],
 ) -> usize
-    requires { ⌜ (events ≤ 64) × (length (now ats) ≡ 64) × (length (now lens) ≡ 64) × NamesInside (now text) (now ats) (now lens) events ⌝ }
+    requires { ⌜ NameRows (now text) (now ats) (now lens) events ⌝ }
     ensures { λ r. ⌜ r ≡ eventNumber (namesIn (now (text .entry)) (now (ats .entry)) (now (lens .entry)) events) (now (word .entry)) ⌝ }
 {
     let mut e = 0;
     while e < events {
         let from = ats[e];
         let end = from + lens[e];
-        if same(word, &text[from..end]) {
+        if same_name(word, &text[from..end]) {
             return e;
         }
         e += 1;
@@ -168,48 +174,120 @@ fn event_named<'a>(
     events
 }
 
-// The names that a text declares, by their places and lengths in it, and how many machines it has.
-pub struct Declared {
-    pub events: usize,
-    pub name_at: [usize; MAX_EVENTS],
-    pub name_len: [usize; MAX_EVENTS],
-    pub machines: usize,
-}
-
-// What a text declares that passes as far as 7. Of any other nothing is promised but that the names lie in it: no call goes on to its events.
-pub fn read_names(text: &[u8]) -> Declared
-    ensures { λ r. ⌜ Declares (now (text .entry)) r ⌝ }
-{
-    let reading = check_plan(text);
-    let verdict = reading.verdict;
-    if let Verdict::Refused(_) = verdict {
-        return Declared {
-            events: 0,
-            name_at: [0usize; MAX_EVENTS],
-            name_len: [0usize; MAX_EVENTS],
-            machines: 0,
-        };
-    }
-    let tables = reading.tables;
-    let name_at = tables.name_at;
-    let name_len = tables.name_len;
-    Declared {
-        events: tables.counts.events,
-        name_at,
-        name_len,
-        machines: tables.counts.machines,
-    }
-}
-
 // The event that a word says by its name or its number. One that is not declared is the count of events, or a number up to 255.
-pub fn event_said(text: &[u8], names: Declared, word: &[u8]) -> Said
-    requires { ⌜ Declares (now text) names ⌝ }
-    ensures { λ r. ⌜ said r ≡ eventSaid (declaredNames (now (text .entry)) names) (now (word .entry)) ⌝ }
+fn event_said<'a>(
+    text: &[u8],
+    ats: &'a [usize],
+    lens: &'a [usize],
+    events: usize,
+    word: &[u8],
+) -> Said
+    requires { ⌜ NameRows (now text) (now ats) (now lens) events ⌝ }
+    ensures { λ r. ⌜ said r ≡ eventSaid (namesIn (now (text .entry)) (now (ats .entry)) (now (lens .entry)) events) (now (word .entry)) ⌝ }
     ensures { λ r. ⌜ ((n : ℕ) → said r ≡ some n → n < 256) ⌝ }
 {
     if is_name(word) {
-        let e = event_named(text, &names.name_at, &names.name_len, names.events, word);
-        return Said::Number(e);
+        return Said::Number(event_named(text, ats, lens, events, word));
     }
     number_said(word, 255)
+}
+
+// The words lie in one row of bytes, each ended by byte 0.
+
+// Where the word ends that begins at `at`.
+fn word_end(words: &[u8], at: usize) -> usize
+    requires { ⌜ at ≤ length (now words) ⌝ }
+    ensures { λ r. ⌜ WordCut (now (words .entry)) at r ⌝ }
+{
+    let mut end = at;
+    while end < words.len() {
+        if words[end] == 0 {
+            return end;
+        }
+        end += 1;
+    }
+    end
+}
+
+// The service that the first word asks for; with no word the program checks.
+pub fn service_asked(words: &[u8]) -> Service
+    ensures { λ r. ⌜ r ≡ serviceAsked (wordsIn (now (words .entry))) ⌝ }
+{
+    if words.len() > 0 {
+        let end = word_end(words, 0);
+        return service_said(&words[..end]);
+    }
+    Service::Check
+}
+
+// Where the words after the first begin.
+pub fn second_word(words: &[u8]) -> usize
+    ensures { λ r. ⌜ (r ≤ length (now (words .entry))) × (wordsIn (drop r (now (words .entry))) ≡ furtherWords (wordsIn (now (words .entry)))) ⌝ }
+{
+    let end = word_end(words, 0);
+    if end < words.len() {
+        return end + 1;
+    }
+    end
+}
+
+// The size that one word says, or the usual one where there is no word.
+pub fn size_said(words: &[u8], usual: usize) -> Said
+    ensures { λ r. ⌜ said r ≡ sizeSaid usual (wordsIn (now (words .entry))) ⌝ }
+{
+    if words.len() == 0 {
+        return Said::Number(usual);
+    }
+    let end = word_end(words, 0);
+    if end + 1 < words.len() {
+        return Said::Neither;
+    }
+    number_said(&words[..end], 65535)
+}
+
+// The event that one word says.
+pub fn one_event_said<'a>(
+    words: &[u8],
+    text: &[u8],
+    ats: &'a [usize],
+    lens: &'a [usize],
+    events: usize,
+) -> Said
+    requires { ⌜ NameRows (now text) (now ats) (now lens) events ⌝ }
+    ensures { λ r. ⌜ said r ≡ oneEventSaid (namesIn (now (text .entry)) (now (ats .entry)) (now (lens .entry)) events) (wordsIn (now (words .entry))) ⌝ }
+{
+    if words.len() == 0 {
+        return Said::Neither;
+    }
+    let end = word_end(words, 0);
+    if end + 1 < words.len() {
+        return Said::Neither;
+    }
+    event_said(text, ats, lens, events, &words[..end])
+}
+
+// The events that the words say, one for each, at the beginning of the row: how many, or Neither where a word says none. A word has a byte of its
+// own at least, so each event has its place before the words that are still to be read.
+pub fn events_said<'a>(
+    words: &mut [u8],
+    text: &[u8],
+    ats: &'a [usize],
+    lens: &'a [usize],
+    events: usize,
+) -> Said
+    requires { ⌜ NameRows (now text) (now ats) (now lens) events ⌝ }
+    ensures { λ r. ⌜ Lists (eventsSaid (namesIn (now (text .entry)) (now (ats .entry)) (now (lens .entry)) events) (wordsIn (now (words .entry)))) r (now (words .exit)) ⌝ }
+{
+    let mut n = 0;
+    let mut at = 0;
+    while at < words.len() {
+        let end = word_end(words, at);
+        let Said::Number(e) = event_said(text, ats, lens, events, &words[at..end]) else {
+            return Said::Neither;
+        };
+        words[n] = narrow(e);
+        n += 1;
+        at = end + 1;
+    }
+    Said::Number(n)
 }

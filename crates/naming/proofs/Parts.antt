@@ -2,7 +2,8 @@
 use Prim.Native.Nat.{ℕ, _+_, _<_, _≤_}
 use native.Mathlib.Omega.{arith}
 use borrow.Author.Tests.{lt-ltb, le-ltb}
-use mathlib.Core.Path.{_≡_, ap, sym, _∙_}
+use mathlib.Core.Path.{_≡_, ap, sym, _∙_, subst}
+use mathlib.Core.Logic.{_⊎_, inl, inr}
 use mathlib.Core.List.{List, []}
 use lib.ListN.{length, getD}
 use Rattle.model.specs.declared.Refusal as D
@@ -11,6 +12,7 @@ use Rattle.model.specs.Cases.{tabled}
 use Rattle.model.specs.Refusal.{refused, passed, refusalOf}
 use Rattle.model.specs.Text.{Input}
 use Rattle.model.specs.Services.{asFarAs7, name, handedBack, nameRefusal}
+use Rattle.model.proofs.Laws.{order}
 use Rattle.rows.specs.declared.Verdict.{Verdict}
 use Rattle.rows.specs.declared.Verdict.the-variants.{Refused, Passed}
 use Rattle.rows.specs.declared.Tables.{Tables}
@@ -21,7 +23,7 @@ use Rattle.rows.proofs.Names.{name-inside, length-name}
 use Rattle.stages.specs.Stages.{Held}
 use Rattle.rows.proofs.Verdicts.{refused-as}
 use Rattle.naming.specs.declared.NamePart.{NamePart}
-use Rattle.naming.specs.Parts.{NoPart, Named}
+use Rattle.naming.specs.Parts.{NoPart, PartIn, Named}
 
 module _ (s : List ℕ) (e : ℕ) {r : NamePart} where
   -- Name is refused
@@ -52,7 +54,7 @@ module _ {s : List ℕ} {p : Tables} (h : Held (asFarAs7 s) s p) (e : ℕ) where
   counted = told-events (h .told)
 
   -- the event is not declared
-  pub unknown : {r : NamePart} → p .counts .events ≤ e → NoPart (UnknownEvent 0) r → Named s e r
+  unknown : {r : NamePart} → p .counts .events ≤ e → NoPart (UnknownEvent 0) r → Named s e r
   unfolding name tabled
   unknown l n = names-none s e (UnknownEvent 0) (rw (h .passes, le-ltb e (length (value .names)) (rw counted at l))) n
 
@@ -65,7 +67,7 @@ module _ {s : List ℕ} {p : Tables} (h : Held (asFarAs7 s) s p) (e : ℕ) where
     size = entry (p .«name_len») e
 
     -- its name lies in the text
-    pub inside-text : from + size ≤ length s
+    inside-text : from + size ≤ length s
     inside-text = name-inside s (p .«name_at») (p .«name_len») (h .names) e l
 
     -- the value has it too
@@ -83,6 +85,14 @@ module _ {s : List ℕ} {p : Tables} (h : Held (asFarAs7 s) s p) (e : ℕ) where
     name-is = rw (h .passes, lt-ltb e (length (value .names)) known, h .told .name-place e known, name-size)
 
     -- the code's answer
-    pub names-it : Named s e (record { verdict = Passed; from = from; end = from + size })
+    names-it : Named s e (record { verdict = Passed; from = from; end = from + size })
     unfolding nameRefusal handedBack verdictRefusal
     names-it = record { verdict = rw name-is; begins = rw name-is; ends = rw name-is; inside = inside-text }
+
+  -- what the rows tell is what Name answers
+  pub in-rows : {r : NamePart} → PartIn (p .«name_at») (p .«name_len») (p .counts .events) e r → Named s e r
+  in-rows {r} i = go (order e (p .counts .events))
+    where
+      go : (e < p .counts .events) ⊎ (p .counts .events ≤ e) → Named s e r
+      go (inl l) = subst (Named s e) (sym (i .known l)) (names-it l)
+      go (inr l) = unknown l (i .unknown l)

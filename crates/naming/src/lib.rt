@@ -1,8 +1,12 @@
 // The service Name: where an event's name stands in the text, and the name as the caller's own bytes.
 ghost use mathlib.Core.Path.{_≡_};
+ghost use Prim.Native.Nat.{_≤_};
+ghost use lib.ListN.{length};
 ghost use Rattle.model.specs.Services as Services;
 ghost use Rattle.rows.specs.Tables.{verdictRefusal};
-ghost use Rattle.naming.specs.Parts.{NoPart, Named, PartOf};
+ghost use Rattle.rows.specs.Bounded.{NamesInside};
+ghost use Rattle.stages.specs.Stages.{ReadAsFarAs7};
+ghost use Rattle.naming.specs.Parts.{NoPart, PartIn, Named, PartOf};
 use model::MAX_EVENTS;
 use model::MAX_MACHINES;
 use model::MAX_TRANSITIONS;
@@ -10,6 +14,7 @@ use model::Refusal;
 use rows::NO_STATE;
 use rows::UNPLACED;
 use rows::Verdict;
+use stages::CheckedPlan;
 use stages::read_as_far_as_7;
 
 // Where a name stands in the text, or the refusal and the empty part at the text's beginning.
@@ -29,8 +34,45 @@ fn no_part(why: Refusal) -> NamePart
     }
 }
 
+// The name of an event by the rows of a text, if it is declared.
+fn part_in_rows<'a>(
+    text: &[u8],
+    name_at: &'a [usize],
+    name_len: &'a [usize],
+    events: usize,
+    event: usize,
+) -> NamePart
+    requires { ⌜ (events ≤ 64) × (length (now «name_at») ≡ 64) × (length (now «name_len») ≡ 64) × NamesInside (now text) (now «name_at») (now «name_len») events ⌝ }
+    ensures { λ r. ⌜ PartIn (now («name_at» .entry)) (now («name_len» .entry)) events event r ⌝ }
+{
+    if event < events {
+        let from = name_at[event];
+        let end = from + name_len[event];
+        return NamePart {
+            verdict: Verdict::Passed,
+            from,
+            end,
+        };
+    }
+    no_part(Refusal::UnknownEvent { position: 0 })
+}
+
+// The name of an event of a text that is checked as far as 7.
+pub fn name_in_plan(plan: CheckedPlan, text: &[u8], event: usize) -> NamePart
+    requires { ⌜ ReadAsFarAs7 (now text) (plan .verdict) (plan .tables) ⌝ }
+    ensures { λ r. ⌜ Named (now (text .entry)) event r ⌝ }
+{
+    let verdict = plan.verdict;
+    if let Verdict::Refused(reason) = verdict {
+        return no_part(reason);
+    }
+    let tables = plan.tables;
+    let events = tables.counts.events;
+    part_in_rows(text, &tables.name_at, &tables.name_len, events, event)
+}
+
 // The name of an event, after the checks as far as 7.
-pub fn find_name(text: &[u8], event: usize) -> NamePart
+pub fn name_part(text: &[u8], event: usize) -> NamePart
     ensures { λ r. ⌜ Named (now (text .entry)) event r ⌝ }
 {
     let mut name_at = [0usize; MAX_EVENTS];
@@ -56,24 +98,15 @@ pub fn find_name(text: &[u8], event: usize) -> NamePart
     if let Verdict::Refused(why) = verdict {
         return no_part(why);
     }
-    if event < read.counts.events {
-        let from = name_at[event];
-        let end = from + name_len[event];
-        NamePart {
-            verdict: Verdict::Passed,
-            from,
-            end,
-        }
-    } else {
-        no_part(Refusal::UnknownEvent { position: 0 })
-    }
+    let events = read.counts.events;
+    part_in_rows(text, &name_at, &name_len, events, event)
 }
 
 // Name: the event's name as the caller's own bytes, or the empty part at the text's beginning; `name_refusal` then says why.
 pub fn name(text: &[u8], event: usize) -> &[u8]
     ensures { λ r. ⌜ PartOf (text .entry) (Services.handedBack (Services.name (now (text .entry)) event)) r ⌝ }
 {
-    let part = find_name(text, event);
+    let part = name_part(text, event);
     let from = part.from;
     let end = part.end;
     &text[from..end]
@@ -83,6 +116,6 @@ pub fn name(text: &[u8], event: usize) -> &[u8]
 pub fn name_refusal(text: &[u8], event: usize) -> Verdict
     ensures { λ r. ⌜ verdictRefusal r ≡ Services.nameRefusal (now (text .entry)) event ⌝ }
 {
-    let part = find_name(text, event);
+    let part = name_part(text, event);
     part.verdict
 }

@@ -11,7 +11,7 @@ use lib.ListN.{length, take, replicate, length-append}
 use lib.Seq.{take-at}
 use Rattle.model.specs.declared.Refusal as D
 use Rattle.model.specs.Cases.{tabled}
-use Rattle.model.specs.Refusal.{Refusal, Checked, refused, passed, _>>=_}
+use Rattle.model.specs.Refusal.{Refusal, Checked, refused, passed, refusalOf, _>>=_}
 use Rattle.model.specs.TransitionSystem.{declared}
 use Rattle.model.specs.Product.{Ran, runFrom}
 use Rattle.model.specs.Machine.{places, move}
@@ -22,15 +22,31 @@ use Rattle.model.specs.Services.{asFarAs12, writtenRefusal, runInput, padded, o
 use Rattle.model.specs.Printed.{printedBy, ranWord, placesWord, ranLine, printedRun}
 use Rattle.model.proofs.Laws.{dec}
 use Rattle.model.proofs.Order.{Verdict, turned-down, let-through}
-use Rattle.model.proofs.Verdicts.{verdict12}
+use Rattle.model.proofs.Verdicts.{verdict12, same-passed}
 use Rattle.model.proofs.Refusing.{events-declared, events-unknown}
 use Rattle.model.proofs.Together.{run-length}
 use Rattle.model.proofs.Standing.{length-places}
+use Rattle.rows.specs.declared.Verdict as Rows
+use Rattle.rows.specs.declared.Tables.{Tables}
 use Rattle.writers.proofs.Refusals.{numeral-most}
 use Rattle.product.specs.declared.Outcome.the-variants.{Whole, Blocked, Refused}
 use Rattle.product.specs.declared.RunAnswer.{RunAnswer}
 use Rattle.product.specs.Answers.{outcomeIs, runAnswer}
-use Rattle.printing.specs.Shown.{MachinesOf}
+use Rattle.stages.specs.Stages.{ReadAsFarAs12}
+use Rattle.stages.proofs.Stages.{past-12}
+
+-- ---- how many machines the rows have
+
+-- if the text passes, it has so many machines
+abbrev MachinesOf : List ℕ → ℕ → Type 0
+MachinesOf s n = (v : Input) → asFarAs12 s ≡ passed v → n ≡ length (v .machines)
+
+pub machines-of : {s : List ℕ} {r : Rows.Verdict} {p : Tables} {pre post excited : List ℕ} → ReadAsFarAs12 s r p pre post excited
+    → MachinesOf s (p .counts .machines)
+machines-of h v e =
+    let j = h .judged (h .verdict ∙ ap refusalOf e) in
+    j .past .held .told .tells-machines .counted
+    ∙ ap (λ (x : Input). length (x .machines)) (same-passed (j .past .held .value) v (sym (past-12 j) ∙ e))
 
 -- ---- what is run, and what it comes to
 abbrev running : List ℕ → List ℕ → Checked Ran

@@ -1,2 +1,2 @@
--- `Shown`: what stands at the beginning of a buffer, and what Run and Thin leave to be printed.
+-- `Shown`: what stands at the beginning of a buffer, and what Thin leaves to be printed.
 pub mod Shown

@@ -7,20 +7,23 @@ ghost use Rattle.model.specs.Cases.{tabled};
 ghost use Rattle.model.specs.Services.{writtenRefusal};
 ghost use Rattle.model.specs.Printed.{printedCheck, transitionLine, printedSteps, printedName, placesWord, printedRun, joined, printedThin};
 ghost use Rattle.rows.specs.Told.{firstTransitions};
+ghost use Rattle.stages.specs.Stages.{ReadAsFarAs7, ReadAsFarAs12};
 ghost use Rattle.writers.specs.Written.{Writes};
-ghost use Rattle.printing.specs.Shown.{Shows, MachinesOf, keptBelow};
+ghost use Rattle.printing.specs.Shown.{Shows, keptBelow};
 use model::MAX_MACHINES;
 use model::Refusal;
-use naming::find_name;
+use naming::name_in_plan;
 use product::Outcome;
 use rows::Verdict;
 use rows::wide;
+use run_service::run_in_split;
 use splitter::Answer;
 use splitter::Thinned;
 use splitter::check;
 use splitter::numbers;
-use splitter::run;
 use splitter::thin;
+use stages::CheckedPlan;
+use stages::CheckedSplit;
 use stages::check_plan;
 use writers::write_bytes;
 use writers::write_numeral;
@@ -106,11 +109,12 @@ pub fn print_steps(text: &[u8], lent: usize, out: &mut [u8]) -> usize
     write_transitions(&tables.source, &tables.event, &tables.target, count, out, c)
 }
 
-pub fn print_name(text: &[u8], event: usize, out: &mut [u8]) -> usize
-    requires { ⌜ length (now out) ≡ 32768 ⌝ }
+// The name of an event of a text that is checked as far as 7.
+pub fn print_name(plan: CheckedPlan, text: &[u8], event: usize, out: &mut [u8]) -> usize
+    requires { ⌜ ReadAsFarAs7 (now text) (plan .verdict) (plan .tables) × (length (now out) ≡ 32768) ⌝ }
     ensures { λ r. ⌜ Shows (printedName (now (text .entry)) event) r (now (out .exit)) ⌝ }
 {
-    let part = find_name(text, event);
+    let part = name_in_plan(plan, text, event);
     let verdict = part.verdict;
     if let Verdict::Refused(why) = verdict {
         return print_refusal(why, out);
@@ -136,14 +140,15 @@ fn write_places(places: [u8; MAX_MACHINES], n: usize, out: &mut [u8], at: usize)
     write_bytes(b"))\n", out, i)
 }
 
-// A text that passes has so many machines.
-pub fn print_run(text: &[u8], events: &[u8], machines: usize, out: &mut [u8]) -> usize
-    requires { ⌜ MachinesOf (now text) machines × (length (now out) ≡ 32768) ⌝ }
+// The run of a list of events on the machines of a text that is checked as far as 12.
+pub fn print_run(split: CheckedSplit, text: &[u8], events: &[u8], out: &mut [u8]) -> usize
+    requires { ⌜ ReadAsFarAs12 (now text) (split .verdict) (split .tables) (split .pre) (split .post) (split .excited) × (length (now out) ≡ 32768) ⌝ }
     ensures { λ r. ⌜ Shows (printedRun (now (text .entry)) (now (events .entry))) r (now (out .exit)) ⌝ }
 {
-    let answer = run(text, events);
+    let answer = run_in_split(split, text, events);
     let outcome = answer.outcome;
     let places = answer.places;
+    let machines = split.tables.counts.machines;
     match outcome {
         Outcome::Refused(why) => print_refusal(why, out),
         Outcome::Whole => {

@@ -1,6 +1,7 @@
 // The service Run. It takes any bytes, and its contract is an equation with the model's definition of it.
 ghost use mathlib.Core.Path.{_≡_};
 ghost use Rattle.model.specs.Services as Services;
+ghost use Rattle.stages.specs.Stages.{ReadAsFarAs12};
 ghost use Rattle.product.specs.Answers.{runAnswer};
 use model::MAX_EVENTS;
 use model::MAX_MACHINES;
@@ -14,6 +15,7 @@ use regions::NOT_ON;
 use rows::NO_STATE;
 use rows::UNPLACED;
 use rows::Verdict;
+use stages::CheckedSplit;
 use stages::read_as_far_as_12;
 use transition_system::EXCITATION_WORDS;
 
@@ -55,4 +57,21 @@ pub fn run(text: &[u8], events: &[u8]) -> RunAnswer
     let declared = counts.events;
     let start = places_of(&place, counts.initial, machines);
     run_events(&pre, &post, machines, declared, start, events)
+}
+
+// The same on a text that is checked as far as 12.
+pub fn run_in_split(split: CheckedSplit, text: &[u8], events: &[u8]) -> RunAnswer
+    requires { ⌜ ReadAsFarAs12 (now text) (split .verdict) (split .tables) (split .pre) (split .post) (split .excited) ⌝ }
+    ensures { λ r. ⌜ runAnswer r ≡ Services.run (now (text .entry)) (now (events .entry)) ⌝ }
+{
+    let verdict = split.verdict;
+    if let Verdict::Refused(reason) = verdict {
+        return refused(reason);
+    }
+    let tables = split.tables;
+    let counts = tables.counts;
+    let machines = counts.machines;
+    let declared = counts.events;
+    let start = places_of(&tables.place, counts.initial, machines);
+    run_events(&split.pre, &split.post, machines, declared, start, events)
 }

@@ -1,4 +1,4 @@
 -- The laws behind the program.
 
--- what is printed lies in the buffer
-pub mod Printing
+-- rows of their length, and what lies in them
+pub mod Lengths

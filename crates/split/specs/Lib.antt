@@ -1,2 +1,2 @@
--- `Answering`: what the program answers.
-pub mod Answering
+-- `Gathered`: the words lie in their row.
+pub mod Gathered

@@ -8,7 +8,7 @@ ghost use Rattle.thin_service.specs.Answers.{numberedSet};
 ghost use Rattle.product.specs.Answers.{outcomeIs};
 ghost use Rattle.split_c.specs.Flat.{flatAnswer, flatPart, flatOutcome, flatRun, flatSet};
 use model::Transition;
-use naming::find_name;
+use naming::name_part;
 use product::Outcome;
 use rows::Verdict;
 use splitter::Answer;
@@ -80,7 +80,7 @@ pub struct SplitName {
 pub extern "C" fn split_name(text: &[u8], event: usize) -> SplitName
     ensures { λ r. ⌜ r ≡ flatPart (Services.name (now (text .entry)) event) ⌝ }
 {
-    let part = find_name(text, event);
+    let part = name_part(text, event);
     let verdict = part.verdict;
     match verdict {
         Verdict::Refused(why) => {

@@ -36,7 +36,7 @@ word c = now (c .before .before .before .before .before .before .args .word)
 
 -- the name lies in the text
 inside : (c : tie.In-loop Inv-loop μ-loop) → entry (ats c) (c .before .loop .e) + entry (lens c) (c .before .loop .e) ≤ length (text c)
-inside c = name-inside (text c) (ats c) (lens c) (c .before .before .before .before .before .before .pre .3) (c .before .loop .e) (c .loop-test .taken)
+inside c = name-inside (text c) (ats c) (lens c) (c .before .before .before .before .before .before .pre .inside) (c .before .loop .e) (c .loop-test .taken)
 
 loop-holds : tie.Need-loop-holds Inv-loop μ-loop
 loop-holds c = upto-start
@@ -56,23 +56,23 @@ shared-slice-read-end c = search needs
 add-end : tie.Need-add-end Inv-loop μ-loop
 add-end c = omega (arith, inside (c .before .before))
 
-sub-same : tie.Need-sub-same Inv-loop μ-loop
-sub-same c = search needs
+sub-same-name : tie.Need-sub-same-name Inv-loop μ-loop
+sub-same-name c = search needs
 
-part-same-start : tie.Need-part-same-start Inv-loop μ-loop
-part-same-start c = search needs
+part-same-name-start : tie.Need-part-same-name-start Inv-loop μ-loop
+part-same-name-start c = search needs
 
-part-same-end : tie.Need-part-same-end Inv-loop μ-loop
-part-same-end c = omega (arith, inside (c .before .before))
+part-same-name-end : tie.Need-part-same-name-end Inv-loop μ-loop
+part-same-name-end c = omega (arith, inside (c .before .before))
 
-same-requires : tie.Need-same-requires Inv-loop μ-loop
-same-requires c κs = search needs
+same-name-requires : tie.Need-same-name-requires Inv-loop μ-loop
+same-name-requires c κs = search needs
 
 returns : tie.Need-returns Inv-loop μ-loop
 returns c =
     let l = c .before .before .before .before .before in
     event-is (text l) (ats l) (lens l) (word l) (l .before .loop .inv)
-    (by-cut (text l) (ats l) (lens l) (word l) (l .before .loop .e) (c .before .same .ensures) (c .if1 .taken))
+    (by-cut (text l) (ats l) (lens l) (word l) (l .before .loop .e) (c .before .same-name .ensures) (c .if1 .taken))
 
 add-e : tie.Need-add-e Inv-loop μ-loop
 add-e c = search needs
@@ -84,7 +84,7 @@ loop-again : tie.Need-loop-again Inv-loop μ-loop
 loop-again c =
     let l = c .before .before .before .before .before in
     upto-more (l .before .loop .inv) (l .loop-test .taken)
-    (by-cut (text l) (ats l) (lens l) (word l) (l .before .loop .e) (c .before .same .ensures) (c .if1 .left))
+    (by-cut (text l) (ats l) (lens l) (word l) (l .before .loop .e) (c .before .same-name .ensures) (c .if1 .left))
 
 returns-2 : tie.Need-returns-2 Inv-loop μ-loop
 returns-2 c =
@@ -103,10 +103,10 @@ event-named-spec =
     mul-end
     shared-slice-read-end
     add-end
-    sub-same
-    part-same-start
-    part-same-end
-    same-requires
+    sub-same-name
+    part-same-name-start
+    part-same-name-end
+    same-name-requires
     returns
     add-e
     loop-less

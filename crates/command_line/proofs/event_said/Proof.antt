@@ -1,7 +1,7 @@
 -- `command_line::event_said` meets its contract: each way out is a law of `Saying`.
 use borrow.Author.Needs.{needs}
 use denote.Ref.{now}
-use Rattle.command_line.specs.Names.{declaredNames}
+use Rattle.rows.specs.Names.{namesIn}
 use Rattle.command_line.proofs.Saying.{says-event, says-by-number, event-small, number-small}
 use Rattle.command_line.proofs.event_said.Statement.{statement}
 use Rattle.command_line.proofs.event_said.Tie as tie
@@ -14,11 +14,11 @@ event-named-requires c κs = search needs
 
 returns : tie.Need-returns
 returns c =
-    let t = c .before .before .before .before .before .before in
-    let b = t .before .before .before .before in
+    let b = c .before .before .before .before .before .before .before in
     let a = b .args in (
-      says-event (declaredNames (now (a .text)) (a .t2)) (now (a .word)) (t .before .is-name .ensures) (t .if1 .taken) (c .event-named .ensures),
-      event-small (now (a .text)) (a .t2 .«name_at») (a .t2 .«name_len») (now (a .word)) (b .pre .most) (c .event-named .ensures),
+      says-event (namesIn (now (a .text)) (now (a .ats)) (now (a .lens)) (a .events)) (now (a .word)) (c .before .before .is-name .ensures) (c .before .if1 .taken)
+          (c .event-named .ensures),
+      event-small (now (a .text)) (now (a .ats)) (now (a .lens)) (now (a .word)) (b .pre .most) (c .event-named .ensures),
     )
 
 number-said-requires : tie.Need-number-said-requires
@@ -26,9 +26,9 @@ number-said-requires c κs = search needs
 
 returns-2 : tie.Need-returns-2
 returns-2 c =
-    let a = c .before .before .before .before .before .args in (
-      says-by-number (declaredNames (now (a .text)) (a .t2)) (now (a .word)) (c .before .before .is-name .ensures) (c .number-said .result) (c .before .if1 .left)
-          (c .number-said .ensures),
+    let a = c .before .before .before .before .before .before .before .args in (
+      says-by-number (namesIn (now (a .text)) (now (a .ats)) (now (a .lens)) (a .events)) (now (a .word)) (c .before .before .is-name .ensures)
+          (c .number-said .result) (c .before .if1 .left) (c .number-said .ensures),
       number-small (now (a .word)) (c .number-said .result) (c .number-said .ensures),
     )
 

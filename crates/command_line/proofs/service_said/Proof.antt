@@ -15,141 +15,141 @@ abbrev word-1 : tie.Else1 → List ℕ
 word-1 c = now (c .before .before .before .before .args .word)
 
 not-check : (c : tie.Else1) → serviceSaid (word-1 c) ≡ past-check (word-1 c)
-not-check c = goes-past Check (past-check (word-1 c)) (c .before .same .ensures) (none-tried (word-1 c)) (c .if1 .left)
+not-check c = goes-past Check (past-check (word-1 c)) (c .before .same-word .ensures) (none-tried (word-1 c)) (c .if1 .left)
 
 abbrev word-2 : tie.Else2 → List ℕ
 word-2 c = word-1 (c .before .before .before)
 
 not-steps : (c : tie.Else2) → serviceSaid (word-2 c) ≡ past-steps (word-2 c)
-not-steps c = goes-past Steps (past-steps (word-2 c)) (c .before .same2 .ensures) (not-check (c .before .before .before)) (c .if2 .left)
+not-steps c = goes-past Steps (past-steps (word-2 c)) (c .before .same-word2 .ensures) (not-check (c .before .before .before)) (c .if2 .left)
 
 abbrev word-3 : tie.Else3 → List ℕ
 word-3 c = word-2 (c .before .before .before)
 
 not-name : (c : tie.Else3) → serviceSaid (word-3 c) ≡ past-name (word-3 c)
-not-name c = goes-past Name (past-name (word-3 c)) (c .before .same3 .ensures) (not-steps (c .before .before .before)) (c .if3 .left)
+not-name c = goes-past Name (past-name (word-3 c)) (c .before .same-word3 .ensures) (not-steps (c .before .before .before)) (c .if3 .left)
 
 abbrev word-4 : tie.Else4 → List ℕ
 word-4 c = word-3 (c .before .before .before)
 
 not-run : (c : tie.Else4) → serviceSaid (word-4 c) ≡ past-run (word-4 c)
-not-run c = goes-past Run (past-run (word-4 c)) (c .before .same4 .ensures) (not-name (c .before .before .before)) (c .if4 .left)
+not-run c = goes-past Run (past-run (word-4 c)) (c .before .same-word4 .ensures) (not-name (c .before .before .before)) (c .if4 .left)
 
 abbrev word-5 : tie.Else5 → List ℕ
 word-5 c = word-4 (c .before .before .before)
 
 not-thin : (c : tie.Else5) → serviceSaid (word-5 c) ≡ past-thin (word-5 c)
-not-thin c = goes-past Thin (past-thin (word-5 c)) (c .before .same5 .ensures) (not-run (c .before .before .before)) (c .if5 .left)
+not-thin c = goes-past Thin (past-thin (word-5 c)) (c .before .same-word5 .ensures) (not-run (c .before .before .before)) (c .if5 .left)
 
 abbrev word-6 : tie.Else6 → List ℕ
 word-6 c = word-5 (c .before .before .before)
 
 not-help : (c : tie.Else6) → serviceSaid (word-6 c) ≡ past-help (word-6 c)
-not-help c = goes-past Help (past-help (word-6 c)) (c .before .same6 .ensures) (not-thin (c .before .before .before)) (c .if6 .left)
+not-help c = goes-past Help (past-help (word-6 c)) (c .before .same-word6 .ensures) (not-thin (c .before .before .before)) (c .if6 .left)
 
-slice-aggregate-same : tie.Need-slice-aggregate-same
-slice-aggregate-same c = search needs
+slice-aggregate-same-word : tie.Need-slice-aggregate-same-word
+slice-aggregate-same-word c = search needs
 
-same-requires : tie.Need-same-requires
-same-requires c κs = search needs
+same-word-requires : tie.Need-same-word-requires
+same-word-requires c κs = search needs
 
 returns : tie.Need-returns
 returns c =
     let w = now (c .before .before .before .before .args .word) in
-    tried Check (past-check w) (c .before .same .ensures) (none-tried w) (c .if1 .taken)
+    tried Check (past-check w) (c .before .same-word .ensures) (none-tried w) (c .if1 .taken)
 
-slice-aggregate-same-2 : tie.Need-slice-aggregate-same-2
-slice-aggregate-same-2 c = search needs
+slice-aggregate-same-word-2 : tie.Need-slice-aggregate-same-word-2
+slice-aggregate-same-word-2 c = search needs
 
-same-requires-2 : tie.Need-same-requires-2
-same-requires-2 c κs = search needs
+same-word-requires-2 : tie.Need-same-word-requires-2
+same-word-requires-2 c κs = search needs
 
 returns-2 : tie.Need-returns-2
 returns-2 c =
     let e = c .before .before .before in
-    tried Steps (past-steps (word-1 e)) (c .before .same2 .ensures) (not-check e) (c .if2 .taken)
+    tried Steps (past-steps (word-1 e)) (c .before .same-word2 .ensures) (not-check e) (c .if2 .taken)
 
-slice-aggregate-same-3 : tie.Need-slice-aggregate-same-3
-slice-aggregate-same-3 c = search needs
+slice-aggregate-same-word-3 : tie.Need-slice-aggregate-same-word-3
+slice-aggregate-same-word-3 c = search needs
 
-same-requires-3 : tie.Need-same-requires-3
-same-requires-3 c κs = search needs
+same-word-requires-3 : tie.Need-same-word-requires-3
+same-word-requires-3 c κs = search needs
 
 returns-3 : tie.Need-returns-3
 returns-3 c =
     let e = c .before .before .before in
-    tried Name (past-name (word-2 e)) (c .before .same3 .ensures) (not-steps e) (c .if3 .taken)
+    tried Name (past-name (word-2 e)) (c .before .same-word3 .ensures) (not-steps e) (c .if3 .taken)
 
-slice-aggregate-same-4 : tie.Need-slice-aggregate-same-4
-slice-aggregate-same-4 c = search needs
+slice-aggregate-same-word-4 : tie.Need-slice-aggregate-same-word-4
+slice-aggregate-same-word-4 c = search needs
 
-same-requires-4 : tie.Need-same-requires-4
-same-requires-4 c κs = search needs
+same-word-requires-4 : tie.Need-same-word-requires-4
+same-word-requires-4 c κs = search needs
 
 returns-4 : tie.Need-returns-4
 returns-4 c =
     let e = c .before .before .before in
-    tried Run (past-run (word-3 e)) (c .before .same4 .ensures) (not-name e) (c .if4 .taken)
+    tried Run (past-run (word-3 e)) (c .before .same-word4 .ensures) (not-name e) (c .if4 .taken)
 
-slice-aggregate-same-5 : tie.Need-slice-aggregate-same-5
-slice-aggregate-same-5 c = search needs
+slice-aggregate-same-word-5 : tie.Need-slice-aggregate-same-word-5
+slice-aggregate-same-word-5 c = search needs
 
-same-requires-5 : tie.Need-same-requires-5
-same-requires-5 c κs = search needs
+same-word-requires-5 : tie.Need-same-word-requires-5
+same-word-requires-5 c κs = search needs
 
 returns-5 : tie.Need-returns-5
 returns-5 c =
     let e = c .before .before .before in
-    tried Thin (past-thin (word-4 e)) (c .before .same5 .ensures) (not-run e) (c .if5 .taken)
+    tried Thin (past-thin (word-4 e)) (c .before .same-word5 .ensures) (not-run e) (c .if5 .taken)
 
-slice-aggregate-same-6 : tie.Need-slice-aggregate-same-6
-slice-aggregate-same-6 c = search needs
+slice-aggregate-same-word-6 : tie.Need-slice-aggregate-same-word-6
+slice-aggregate-same-word-6 c = search needs
 
-same-requires-6 : tie.Need-same-requires-6
-same-requires-6 c κs = search needs
+same-word-requires-6 : tie.Need-same-word-requires-6
+same-word-requires-6 c κs = search needs
 
 returns-6 : tie.Need-returns-6
 returns-6 c =
     let e = c .before .before .before in
-    tried Help (past-help (word-5 e)) (c .before .same6 .ensures) (not-thin e) (c .if6 .taken)
+    tried Help (past-help (word-5 e)) (c .before .same-word6 .ensures) (not-thin e) (c .if6 .taken)
 
-slice-aggregate-same-7 : tie.Need-slice-aggregate-same-7
-slice-aggregate-same-7 c = search needs
+slice-aggregate-same-word-7 : tie.Need-slice-aggregate-same-word-7
+slice-aggregate-same-word-7 c = search needs
 
-same-requires-7 : tie.Need-same-requires-7
-same-requires-7 c κs = search needs
+same-word-requires-7 : tie.Need-same-word-requires-7
+same-word-requires-7 c κs = search needs
 
 returns-7 : tie.Need-returns-7
 returns-7 c =
     let e = c .before .before .before in
-    tried Explain Unknown (c .before .same7 .ensures) (not-help e) (c .if7 .taken)
+    tried Explain Unknown (c .before .same-word7 .ensures) (not-help e) (c .if7 .taken)
 
 returns-8 : tie.Need-returns-8
-returns-8 c = sym (goes-past Explain Unknown (c .before .same7 .ensures) (not-help (c .before .before .before)) (c .if7 .left))
+returns-8 c = sym (goes-past Explain Unknown (c .before .same-word7 .ensures) (not-help (c .before .before .before)) (c .if7 .left))
 
 pub service-said-spec : {M : Type 1} → statement M
 service-said-spec =
     tie.close
     (tie.spec
-    slice-aggregate-same
-    same-requires
+    slice-aggregate-same-word
+    same-word-requires
     returns
-    slice-aggregate-same-2
-    same-requires-2
+    slice-aggregate-same-word-2
+    same-word-requires-2
     returns-2
-    slice-aggregate-same-3
-    same-requires-3
+    slice-aggregate-same-word-3
+    same-word-requires-3
     returns-3
-    slice-aggregate-same-4
-    same-requires-4
+    slice-aggregate-same-word-4
+    same-word-requires-4
     returns-4
-    slice-aggregate-same-5
-    same-requires-5
+    slice-aggregate-same-word-5
+    same-word-requires-5
     returns-5
-    slice-aggregate-same-6
-    same-requires-6
+    slice-aggregate-same-word-6
+    same-word-requires-6
     returns-6
-    slice-aggregate-same-7
-    same-requires-7
+    slice-aggregate-same-word-7
+    same-word-requires-7
     returns-7
     returns-8)

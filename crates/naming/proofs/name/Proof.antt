@@ -1,12 +1,12 @@
--- `naming::name` meets its contract: the part that `find_name` ensures, cut out of the caller's text.
+-- `naming::name` meets its contract: the part that `name_part` ensures, cut out of the caller's text.
 use mathlib.Core.Path.{refl}
 use borrow.Author.Needs.{needs}
 use Rattle.naming.proofs.Naming.{cut}
 use Rattle.naming.proofs.name.Statement.{statement}
 use Rattle.naming.proofs.name.Tie as tie
 
-find-name-requires : tie.Need-find-name-requires
-find-name-requires c κs = search needs
+name-part-requires : tie.Need-name-part-requires
+name-part-requires c κs = search needs
 
 sub-result : tie.Need-sub-result
 sub-result c = search needs
@@ -18,8 +18,8 @@ part-result-end : tie.Need-part-result-end
 part-result-end c = search needs
 
 returns : tie.Need-returns
-returns c = cut (c .before .find-name .ensures) refl refl (search needs)
+returns c = cut (c .before .name-part .ensures) refl refl (search needs)
 
 pub name-spec : {M : Type 1} → statement M
 name-spec =
-    tie.close (tie.spec find-name-requires sub-result part-result-start part-result-end returns)
+    tie.close (tie.spec name-part-requires sub-result part-result-start part-result-end returns)

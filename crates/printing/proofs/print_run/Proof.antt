@@ -12,17 +12,17 @@ use Rattle.writers.proofs.Refusals.{numeral-most}
 use Rattle.printing.proofs.Showing.{shows-same}
 use Rattle.printing.proofs.Lines.{shows-as}
 use Rattle.printing.proofs.Places.{places-most}
-use Rattle.printing.proofs.Runs.{Line, blockedWord, blocked-most, run-refused, run-whole, run-blocked}
+use Rattle.printing.proofs.Runs.{Line, blockedWord, blocked-most, run-refused, run-whole, run-blocked, machines-of}
 use Rattle.printing.proofs.print_run.Statement.{statement}
 use Rattle.printing.proofs.print_run.Tie as tie
 
 -- what the function was given, as the run is over
-abbrev given : tie.After-run → tie.Start
+abbrev given : tie.After-run-in-split → tie.Start
 given c = c .before .before .before .before
 
 -- what is printed is this word and the places of the run
-abbrev Lines : tie.After-run → List ℕ → Type 0
-Lines c word = Line (now (given c .args .text)) (now (given c .args .events)) word (given c .args .machines) (c .run .result .places)
+abbrev Lines : tie.After-run-in-split → List ℕ → Type 0
+Lines c word = Line (now (given c .args .text)) (now (given c .args .events)) word (given c .args .split .tables .counts .machines) (c .run-in-split .result .places)
 
 -- how many events ran, and the machine that blocked the next
 abbrev count : tie.After-outcome2 → ℕ
@@ -34,12 +34,12 @@ blocker c = c .outcome2 .given .0 .1 .0
 whole : (c : tie.After-enum-told) → Lines (c .before .before .before) (bytes "(whole ")
 whole c =
     let r = c .before .before .before in
-    run-whole _ _ _ (r .run .ensures) _ (given r .pre .0) (c .enum-told .given .1)
+    run-whole _ _ _ (r .run-in-split .ensures) _ (machines-of (given r .pre .0)) (c .enum-told .given .1)
 
 blocked : (c : tie.After-outcome2) → Lines (c .before .before .before) (blockedWord (count c) (blocker c))
 blocked c =
     let r = c .before .before .before in
-    run-blocked _ _ _ (r .run .ensures) _ (given r .pre .0) _ _ (c .outcome2 .given .1)
+    run-blocked _ _ _ (r .run-in-split .ensures) _ (machines-of (given r .pre .0)) _ _ (c .outcome2 .given .1)
 
 -- the outcome of a run that was blocked, as its places are next
 abbrev chosen : tie.After-write-bytes4 → tie.After-outcome2
@@ -60,8 +60,8 @@ begun c =
     (writes-append (w2 .write-numeral .ensures)
     (writes-append (w3 .write-bytes3 .ensures) (writes-append (w4 .write-numeral2 .ensures) (c .write-bytes4 .ensures))))
 
-run-requires : tie.Need-run-requires
-run-requires c κs = search needs
+run-in-split-requires : tie.Need-run-in-split-requires
+run-in-split-requires c κs = search needs
 
 enum-known-outcome : tie.Need-enum-known-outcome
 enum-known-outcome c = search needs
@@ -142,7 +142,7 @@ returns c =
     let p = c .before .before in
     let o = p .before .before .before in
     let r = o .before .before .before in
-    shows-same (sym (run-refused _ _ _ (r .run .ensures) _ (o .outcome .given .1))) (p .print-refusal .ensures)
+    shows-same (sym (run-refused _ _ _ (r .run-in-split .ensures) _ (o .outcome .given .1))) (p .print-refusal .ensures)
 
 same-length-2 : tie.Need-same-length-2
 same-length-2 c = search needs
@@ -155,7 +155,7 @@ returns-2 c =
     let r = o .before .before .before in
     let l = whole o in
     shows-as (l .line) (writes-append (w .write-bytes .ensures) (p .write-places .ensures))
-    (omega (arith, places-most (r .run .result .places) (given r .args .machines) (l .few))) (given r .pre .1)
+    (omega (arith, places-most (r .run-in-split .result .places) (given r .args .split .tables .counts .machines) (l .few))) (given r .pre .1)
 
 same-length-3 : tie.Need-same-length-3
 same-length-3 c = search needs
@@ -175,7 +175,7 @@ returns-3 c =
       w .after,
       v .after,
       blocked-most (count o) (blocker o),
-      places-most (r .run .result .places) (given r .args .machines) (l .few),
+      places-most (r .run-in-split .result .places) (given r .args .split .tables .counts .machines) (l .few),
     ))
     (given r .pre .1)
 
@@ -183,7 +183,7 @@ pub print-run-spec : {M : Type 1} → statement M
 print-run-spec =
     tie.close
     (tie.spec
-    run-requires
+    run-in-split-requires
     enum-known-outcome
     print-refusal-requires
     enum-told

@@ -1,0 +1,140 @@
+-- `answering::answer_by` meets its contract: each service has its own answer.
+use mathlib.Core.Path.{_≡_, ap, sym}
+use borrow.Author.Needs.{needs}
+use Rattle.command_line.specs.declared.Service.{Service}
+use Rattle.command_line.specs.Program.{answerBy}
+use Rattle.answering.proofs.Saying.{shows-none, shows-answer, asked-as}
+use Rattle.answering.proofs.answer_by.Statement.{statement}
+use Rattle.answering.proofs.answer_by.Tie as tie
+
+enum-told : tie.Need-enum-told
+enum-told c = search needs
+
+answer-check-requires : tie.Need-answer-check-requires
+answer-check-requires c κs = search needs
+
+enum-told-2 : tie.Need-enum-told-2
+enum-told-2 c = search needs
+
+answer-steps-requires : tie.Need-answer-steps-requires
+answer-steps-requires c κs = search needs
+
+enum-told-3 : tie.Need-enum-told-3
+enum-told-3 c = search needs
+
+answer-name-requires : tie.Need-answer-name-requires
+answer-name-requires c κs = search needs
+
+enum-told-4 : tie.Need-enum-told-4
+enum-told-4 c = search needs
+
+answer-run-requires : tie.Need-answer-run-requires
+answer-run-requires c κs = search needs
+
+enum-told-5 : tie.Need-enum-told-5
+enum-told-5 c = search needs
+
+answer-thin-requires : tie.Need-answer-thin-requires
+answer-thin-requires c κs = search needs
+
+enum-told-6 : tie.Need-enum-told-6
+enum-told-6 c = search needs
+
+enum-told-7 : tie.Need-enum-told-7
+enum-told-7 c = search needs
+
+enum-told-8 : tie.Need-enum-told-8
+enum-told-8 c = search needs
+
+same-length : tie.Need-same-length
+same-length c = search needs
+
+same-length-2 : tie.Need-same-length-2
+same-length-2 c = search needs
+
+returns : tie.Need-returns
+returns c = shows-answer (asked-as _ _ (c .before .before .before .before .before .enum-told .given .1)) (c .before .before .answer-check .ensures)
+
+same-length-3 : tie.Need-same-length-3
+same-length-3 c = search needs
+
+same-length-4 : tie.Need-same-length-4
+same-length-4 c = search needs
+
+returns-2 : tie.Need-returns-2
+returns-2 c = shows-answer (asked-as _ _ (c .before .before .before .before .before .enum-told2 .given .1)) (c .before .before .answer-steps .ensures)
+
+same-length-5 : tie.Need-same-length-5
+same-length-5 c = search needs
+
+same-length-6 : tie.Need-same-length-6
+same-length-6 c = search needs
+
+returns-3 : tie.Need-returns-3
+returns-3 c = shows-answer (asked-as _ _ (c .before .before .before .before .before .enum-told3 .given .1)) (c .before .before .answer-name .ensures)
+
+same-length-7 : tie.Need-same-length-7
+same-length-7 c = search needs
+
+same-length-8 : tie.Need-same-length-8
+same-length-8 c = search needs
+
+returns-4 : tie.Need-returns-4
+returns-4 c = shows-answer (asked-as _ _ (c .before .before .before .before .before .before .before .enum-told4 .given .1)) (c .before .before .before .before .answer-run .ensures)
+
+same-length-9 : tie.Need-same-length-9
+same-length-9 c = search needs
+
+same-length-10 : tie.Need-same-length-10
+same-length-10 c = search needs
+
+returns-5 : tie.Need-returns-5
+returns-5 c = shows-answer (asked-as _ _ (c .before .before .before .before .before .enum-told5 .given .1)) (c .before .before .answer-thin .ensures)
+
+returns-6 : tie.Need-returns-6
+unfolding answerBy
+returns-6 c = shows-none (asked-as _ _ (c .enum-told6 .given .1)) (search needs)
+
+returns-7 : tie.Need-returns-7
+unfolding answerBy
+returns-7 c = shows-none (asked-as _ _ (c .enum-told7 .given .1)) (search needs)
+
+returns-8 : tie.Need-returns-8
+unfolding answerBy
+returns-8 c = shows-none (asked-as _ _ (c .enum-told8 .given .1)) (search needs)
+
+pub answer-by-spec : {M : Type 1} → statement M
+answer-by-spec =
+    tie.close
+    (tie.spec
+    enum-told
+    answer-check-requires
+    enum-told-2
+    answer-steps-requires
+    enum-told-3
+    answer-name-requires
+    enum-told-4
+    answer-run-requires
+    enum-told-5
+    answer-thin-requires
+    enum-told-6
+    enum-told-7
+    enum-told-8
+    same-length
+    same-length-2
+    returns
+    same-length-3
+    same-length-4
+    returns-2
+    same-length-5
+    same-length-6
+    returns-3
+    same-length-7
+    same-length-8
+    returns-4
+    same-length-9
+    same-length-10
+    returns-5
+    returns-6
+    returns-7
+    returns-8)

@@ -1,0 +1,2 @@
+-- `Known`: how many names of a text count.
+pub mod Known

@@ -1,0 +1,45 @@
+-- What the program answers on the plan Y, by computation.
+use mathlib.Core.Path.{_≡_, refl}
+use mathlib.Core.List.{List, [], _∷_, flatMap, flatten}
+use mathlib.Core.Option.{none, some, orElse}
+use Prim.Native.Nat.{ℕ}
+use Prim.Native.String.{_++_}
+use Rattle.model.specs.Lists.{exists, every, first, index, count, satisfying, isSome, isEmpty, numbers, elem, lowest}
+use Rattle.model.specs.TransitionSystem.{leads, declared, transitionRefusal, transitionsRefusal, unusedEvent, exits, withTarget, grown, reached, unreachableState, systemRefusal}
+use Rattle.model.specs.Product.{moveFrom, both, oneMore, inAlphabet, effective, fire, fireAll, productStep, blocker, runFrom}
+use Rattle.model.specs.Machine.{placeIn, places, crosses, move, duplicateState, unplacedState, transitionsOf, enters, allOrNone, uniform, nonuniformEvent, ineffectiveEvent, inPre, ready, common, excited, openState, openEvent, closureRefusal, machineRefusal, machinesRefusal, coverRefusal}
+use Rattle.model.specs.Bytes.{bytes, isDigit, isLetter, isNameByte, isFigure, isName, digits, numeral, numeralUpTo}
+use Rattle.model.specs.Form.{written, isMachineLine, isStepLine, statesLine, spacedName, eventsLine, stepLine, spacedFigure, place, machineLine, lineAfter}
+use Rattle.model.specs.Text.{eventNumber, valueOf, distinct, inLimit, isDeclared, ended, lineThen, linesFrom, read, nameAt}
+use Rattle.model.specs.Sheet.{addMove, movesBelow, sheetLine, sheetLines, moveBytes, writtenMove, writtenLine, sheet}
+use Rattle.model.specs.Printed.{printedBy, fitting, spaced, printedCheck, nameLine, printedName, ranWord, placesWord, ranLine, printedRun}
+use Rattle.model.specs.Services.{asFarAs7, asFarAs10, asFarAs12, name, runEvents, printed, writtenAnswer, writtenRefusal}
+use Rattle.model.specs.Examples.{Y, Y0, Y1}
+use Rattle.command_line.specs.Words.{serviceSaid, isNumeral, isNameWord, numberSaid, eventSaid}
+use Rattle.command_line.specs.WordRow.{begunBy, wordsIn}
+use Rattle.command_line.specs.Program.{sizeSaid, oneEventSaid, before, eventsSaid, namesOf, answerBy, answerTo}
+
+pub record AnswersOnY (y : List ℕ) : Type 0 where
+  pub no-word : answerTo [] y
+      ≡ some (bytes "(accepted 2)\n(machine 0 (places 2) (start 0) (move ready 0 1) (move home 1 0))\n(machine 1 (places 2) (start 0) (move brake 0 1) (move home 1 0))\n")
+  pub short : answerTo (bytes "check" ∷ bytes "144" ∷ []) y ≡ some (bytes "(refused 13 145 0)\n")
+  pub named : answerTo (bytes "name" ∷ bytes "brake" ∷ []) y ≡ some (bytes "brake\n")
+  pub ran : answerTo (bytes "run" ∷ bytes "ready" ∷ bytes "1" ∷ []) y ≡ some (bytes "(whole (places 1 1))\n")
+  pub two-names : answerTo (bytes "name" ∷ bytes "ready" ∷ bytes "brake" ∷ []) y ≡ none
+  pub capitals : answerTo (bytes "CHECK" ∷ []) y ≡ none
+
+pub answers-on-y : AnswersOnY (bytes (Y ++ Y0 ++ Y1))
+unfolding exists every first index count satisfying isSome isEmpty numbers elem lowest orElse flatMap flatten leads declared transitionRefusal transitionsRefusal
+    unusedEvent exits withTarget grown reached unreachableState systemRefusal moveFrom both oneMore inAlphabet effective fire fireAll productStep blocker runFrom placeIn
+    places crosses move duplicateState unplacedState transitionsOf enters allOrNone uniform nonuniformEvent ineffectiveEvent inPre ready common excited openState
+    openEvent closureRefusal machineRefusal machinesRefusal coverRefusal isDigit isLetter isNameByte isFigure isName digits numeral numeralUpTo written isMachineLine
+    isStepLine statesLine spacedName eventsLine stepLine spacedFigure place machineLine lineAfter eventNumber valueOf distinct inLimit isDeclared ended lineThen
+    linesFrom read nameAt addMove movesBelow sheetLine sheetLines moveBytes writtenMove writtenLine sheet printedBy fitting spaced printedCheck nameLine
+    printedName ranWord placesWord ranLine printedRun asFarAs7 asFarAs10 asFarAs12 name runEvents printed writtenAnswer writtenRefusal serviceSaid isNumeral
+    isNameWord numberSaid eventSaid sizeSaid oneEventSaid before eventsSaid namesOf answerBy answerTo
+answers-on-y = record { no-word = refl; short = refl; named = refl; ran = refl; two-names = refl; capitals = refl }
+
+-- a row of three words, the second empty, the last with no byte 0 behind it
+pub three-words : wordsIn (97 ∷ 98 ∷ 0 ∷ 0 ∷ 99 ∷ []) ≡ (97 ∷ 98 ∷ []) ∷ [] ∷ (99 ∷ []) ∷ []
+unfolding begunBy wordsIn
+three-words = refl
