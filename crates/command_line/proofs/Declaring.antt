@@ -4,7 +4,6 @@ use native.Mathlib.Omega.{arith}
 use mathlib.Core.Path.{_≡_, ap, sym, _∙_}
 use mathlib.Core.Bool.{Bool, true, false}
 use mathlib.Core.List.{List, []}
-use lib.ListN.{length}
 use Rattle.model.specs.Bytes.{sameName}
 use Rattle.model.specs.Text.{eventNumber}
 use Rattle.rows.proofs.Searches.{Upto, index-is}

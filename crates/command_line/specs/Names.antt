@@ -1,6 +1,5 @@
 -- The names of a text's events in rows: where each begins, and its length.
 use Prim.Native.Nat.{ℕ, _≤_}
-use mathlib.Core.Path.{_≡_}
 use mathlib.Core.List.{List}
 use lib.ListN.{length}
 use Rattle.rows.specs.Bounded.{NamesInside}

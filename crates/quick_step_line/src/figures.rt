@@ -1,7 +1,7 @@
 // A figure of one to three digits, from its first byte or from the byte after its last, without a branch on its bytes.
 ghost use mathlib.Core.Path.{_≡_};
 ghost use mathlib.Core.Bool.{cond};
-ghost use Prim.Native.Nat.{_+_, _-_, _*_, _/_, _%_, _<_, _≤_};
+ghost use Prim.Native.Nat.{_+_, _-_, _*_, _%_, _<_, _≤_};
 ghost use lib.ListN.{length};
 ghost use Rattle.quick_step_line.specs.Quick.{SizedFigure, GuessedFigure};
 use lexer::is_digit;

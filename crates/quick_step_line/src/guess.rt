@@ -1,7 +1,6 @@
 // Where a step line ends, by bit tricks of which nothing is proved but that they stay in range.
 ghost use Prim.Native.Nat.{_+_, _-_, _*_, _/_, _≤_};
 ghost use lib.ListN.{length};
-ghost use Rattle.model.specs.Bytes.{bytes};
 use super::words::little_endian;
 
 // How many of a word's bytes, from the lowest on, have bit 5.

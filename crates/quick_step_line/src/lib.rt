@@ -1,7 +1,7 @@
 // A step line read without a branch on its bytes. Where its words lie is guessed by bits, and the guess is verified byte by byte.
 ghost use mathlib.Core.Path.{_≡_};
 ghost use mathlib.Core.Bool.{true};
-ghost use Prim.Native.Nat.{_+_, _-_, _/_, _<_, _≤_};
+ghost use Prim.Native.Nat.{_+_, _-_, _<_, _≤_};
 ghost use lib.ListN.{length};
 ghost use Rattle.model.specs.Bytes.{bytes};
 ghost use Rattle.model.proofs.Words.{Spans};

@@ -3,7 +3,6 @@ ghost use mathlib.Core.Path.{_≡_};
 ghost use mathlib.Core.Bool.{true};
 ghost use Prim.Native.Nat.{_+_, _-_, _*_, _/_, _%_, _<_, _≤_, min};
 ghost use lib.ListN.{length};
-ghost use Rattle.model.specs.Bytes.{bytes};
 ghost use Rattle.quick_step_line.specs.Quick.{Packs, NameSize, Same};
 use super::words::big_endian;
 use super::words::first_bytes;

@@ -2,7 +2,6 @@
 ghost use mathlib.Core.Path.{_≡_};
 ghost use Prim.Native.Nat.{_+_, _-_, _*_, _/_, _^_, _<_, _≤_};
 ghost use lib.ListN.{length};
-ghost use Rattle.model.specs.Bytes.{bytes};
 ghost use Rattle.model.specs.Reading.{part};
 ghost use Rattle.lexer.specs.Words.{packed};
 use lexer::byte_word;

@@ -10,8 +10,7 @@ use Rattle.model.specs.declared.Refusal as D
 use Rattle.model.specs.declared.Refusal.the-variants.{UnusedEvent, Unreachable}
 use Rattle.model.specs.Cases.{tabled}
 use Rattle.model.specs.Lists.{exists}
-use Rattle.model.specs.TransitionSystem.{Transition, TransitionSystem, transitionsRefusal, unusedEvent, unreachableState, systemRefusal}
-use Rattle.model.proofs.Bounds.{Within}
+use Rattle.model.specs.TransitionSystem.{Transition, transitionsRefusal, unusedEvent, unreachableState, systemRefusal}
 use Rattle.model.proofs.Laws.{and-r, exists-elim}
 use Rattle.rows.specs.declared.Tables.{Tables}
 use Rattle.rows.specs.declared.Verdict.{Verdict}

@@ -222,7 +222,7 @@ module _ {M : Type 1} (𝓤 : URA M) (H : Heap 𝓤) (A : Atoms 𝓤) (W : Given
   meets : Meets 𝓤 H A split-steps.signature (WpFn 𝓤 H (𝓣 .C) (𝓣 .Λ) code.function) (split-steps.spec 𝓤 H A mem′ run)
   meets =
       walk-meets 𝓤 H A split-steps.ended stayed W (goes-dropped 𝓤 H A W 2 (shrSliceOf (0 ∷ []) tt (plain (λ _. u8))) yes (λ κs x f. refl), (goes-gave-slice 𝓤 H A W 2 1 tt (plain (λ _. S.the-row)), tt)) (split-steps.clauses 𝓤 H A mem′ run)
-      (WpFn 𝓤 H (𝓣 .C) (𝓣 .Λ) code.function) (WpFn-mono 𝓤 H (W .laws) 𝓣 code.function) hand_proofs
+      (WpFn 𝓤 H (𝓣 .C) (𝓣 .Λ) code.function) (WpFn-mono 𝓤 H (W .laws) 𝓣 code.function) walks
 
 pub split-steps-spec : {M : Type 1} → stated.statement M
 unfolding code.routine tablesOf

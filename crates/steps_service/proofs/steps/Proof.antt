@@ -389,7 +389,7 @@ module _ {M : Type 1} (𝓤 : URA M) (H : Heap 𝓤) (A : Atoms 𝓤) (W : Given
   steps-meets : Meets 𝓤 H A steps.signature (WpFn 𝓤 H (𝓣 .C) (𝓣 .Λ) code.function) (steps.spec 𝓤 H A mem′ run)
   steps-meets =
       walk-meets 𝓤 H A steps.ended stayed W (goes-none-slice 𝓤 H A W 2 (0 ∷ []) tt (plain (λ _. u8)) yes, (goes-gave-slice 𝓤 H A W 2 1 tt (plain (λ _. S.the-row)), tt)) (steps.clauses 𝓤 H A mem′ run)
-      (WpFn 𝓤 H (𝓣 .C) (𝓣 .Λ) code.function) (WpFn-mono 𝓤 H (W .laws) 𝓣 code.function) steps-hand_proofs
+      (WpFn 𝓤 H (𝓣 .C) (𝓣 .Λ) code.function) (WpFn-mono 𝓤 H (W .laws) 𝓣 code.function) steps-walks
 
 pub steps-spec : {M : Type 1} → stated.statement M
 unfolding code.routine tablesOf
