@@ -4,3 +4,5 @@
 pub mod Saying
 -- the names that count, and what they leave open
 pub mod Knowing
+-- an answer has a byte
+pub mod Speaking
