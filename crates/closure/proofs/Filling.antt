@@ -1,4 +1,4 @@
--- The places of a machine as sets, filled state by state.
+-- The places of all machines as sets, filled state by state, and each state machine by machine.
 use Prim.Native.Nat.{ℕ, suc, _+_, _*_, _<_, _≤_}
 use native.Mathlib.Numerals.{add-one}
 use native.Mathlib.Decide.{ℕ-discrete}
@@ -11,7 +11,9 @@ use borrow.Author.Tests.{lt-ltb, le-ltb, eq-eqb, ne-eqb}
 use lib.Dec.{eqb, ltb}
 use lib.ListN.{length, replicate, length-replicate}
 use Rattle.model.proofs.Laws.{below-suc, order}
-use Rattle.state_set.specs.Rows.{memberAt, Inserted}
+use Rattle.state_set.specs.declared.StateSet.{StateSet}
+use Rattle.state_set.specs.Member.{member}
+use Rattle.state_set.specs.Rows.{memberAt, Inserted, Joined}
 use Rattle.state_set.proofs.Rows.{empty-row}
 use Rattle.rows.specs.Told.{entry}
 use Rattle.closure.specs.Covers.{PlaceSets}
@@ -20,13 +22,17 @@ use Rattle.closure.specs.Covers.{PlaceSets}
 abbrev holds : List ℕ → ℕ → ℕ → ℕ → ℕ → Bool
 holds place m x q i = ltb i x && eqb (entry place (m * 256 + i)) q
 
--- the sets of the machines before m are there, of machine m those of the first x states, and no others
-pub record Filling (place : List ℕ) (n words m : ℕ) (sets : List ℕ) (x : ℕ) : Type 0 where
-  pub most : x ≤ n
+-- the sets of the machines before m have state x already, the others only those before x
+pub record Filling (place : List ℕ) (words machines x : ℕ) (sets : List ℕ) (m : ℕ) : Type 0 where
+  pub most : m ≤ machines
   pub size : length sets ≡ words
-  pub done : (k q i : ℕ) → k < m → q < 64 → memberAt sets (k * 64 + q) i ≡ holds place k n q i
-  pub here : (q i : ℕ) → q < 64 → memberAt sets (m * 64 + q) i ≡ holds place m x q i
-  pub others : (j i : ℕ) → suc m * 64 ≤ j → memberAt sets j i ≡ false
+  pub done : (k q i : ℕ) → k < m → q < 64 → memberAt sets (k * 64 + q) i ≡ holds place k (x + 1) q i
+  pub left : (k q i : ℕ) → m ≤ k → k < machines → q < 64 → memberAt sets (k * 64 + q) i ≡ holds place k x q i
+  pub others : (j i : ℕ) → machines * 64 ≤ j → memberAt sets j i ≡ false
+
+-- a single state is joined to a set
+pub single-joined : {k x : ℕ} {a : StateSet} {old new : List ℕ} → Joined k a old new → ((i : ℕ) → member a i ≡ eqb i x) → Inserted k x old new
+single-joined {k} {x} {a} {old} {new} s q = record { size = s .size; members = λ j i. rw (← q i) (s .members j i) }
 
 -- one state more
 one-more : (f : ℕ → Bool) (x i : ℕ) → (ltb i (x + 1) && f i) ≡ ((ltb i x && f i) || (f x && eqb i x))
@@ -40,41 +46,41 @@ one-more f x i = go (ℕ-discrete i x)
         same (inl l) = lt-ltb i (x + 1) (omega arith) ∙ sym (lt-ltb i x l)
         same (inr l) = le-ltb i (x + 1) (omega arith) ∙ sym (le-ltb i x l)
 
-module _ {place : List ℕ} {n words m : ℕ} where
-  pub fill-start : {sets : List ℕ} → PlaceSets place n words m sets → Filling place n words m sets 0
-  fill-start p =
-      record {
-        most = omega arith;
-        size = p .size;
-        done = p .members;
-        here = λ q i l. p .others (m * 64 + q) i (omega arith) ∙ rw (le-ltb i 0 (omega arith));
-        others = λ j i l. p .others j i (omega arith);
-      }
+module _ {place : List ℕ} {words machines x : ℕ} where
+  pub fill-start : {sets : List ℕ} → PlaceSets place x words machines sets → Filling place words machines x sets 0
+  fill-start p = record { most = omega arith; size = p .size; done = λ k q i l. absurd (omega arith); left = λ k q i _. p .members k q i; others = p .others }
 
-  -- the next state is in no place
+  -- machine m has the state in no place
   pub fill-skip :
-      {sets next : List ℕ} {x q : ℕ} → Filling place n words m sets x → x < n → q ≡ entry place (m * 256 + x) → 64 ≤ q → next ≡ sets
-      → Filling place n words m next (x + 1)
-  fill-skip {sets} {next} {x} {q} f l v h e = rw e skipped
+      {sets next : List ℕ} {m q : ℕ} → Filling place words machines x sets m → m < machines → q ≡ entry place (m * 256 + x) → 64 ≤ q → next ≡ sets
+      → Filling place words machines x next (m + 1)
+  fill-skip {sets} {next} {m} {q} f l v h e = rw e skipped
     where
-      skipped : Filling place n words m sets (x + 1)
+      here : (r i : ℕ) → r < 64 → memberAt sets (m * 64 + r) i ≡ holds place m (x + 1) r i
+      here r i b =
+          f .left m r i (omega arith) l b
+          ∙ sym (one-more (λ j. eqb (entry place (m * 256 + j)) r) x i
+          ∙ rw (ne-eqb (entry place (m * 256 + x)) r (λ e. omega arith)) (or-false (holds place m x r i)))
+
+      skipped : Filling place words machines x sets (m + 1)
       skipped =
           record {
             most = omega arith;
             size = f .size;
-            done = f .done;
-            here = λ r i b.
-                f .here r i b
-                ∙ sym (one-more (λ j. eqb (entry place (m * 256 + j)) r) x i
-                ∙ rw (ne-eqb (entry place (m * 256 + x)) r (λ e. omega arith)) (or-false (holds place m x r i)));
+            done = λ k r i a b. at k r i b (below-suc k m (omega arith));
+            left = λ k r i a. f .left k r i (omega arith);
             others = f .others;
           }
+        where
+          at : (k r i : ℕ) → r < 64 → (k < m) ⊎ (k ≡ m) → memberAt sets (k * 64 + r) i ≡ holds place k (x + 1) r i
+          at k r i b (inl a) = f .done k r i a b
+          at k r i b (inr a) = rw a (here r i b)
 
   -- or in place q, whose set it joins
   pub fill-more :
-      {sets new next : List ℕ} {x q s : ℕ} → Filling place n words m sets x → x < n → q ≡ entry place (m * 256 + x) → q < 64 → s ≡ x
-      → Inserted (m * 64 + q) s sets new → next ≡ new → Filling place n words m next (x + 1)
-  fill-more {sets} {new} {next} {x} {q} {s} f l v h w p u = rw u filled
+      {sets new next : List ℕ} {m q s : ℕ} → Filling place words machines x sets m → m < machines → q ≡ entry place (m * 256 + x) → q < 64 → s ≡ x
+      → Inserted (m * 64 + q) s sets new → next ≡ new → Filling place words machines x next (m + 1)
+  fill-more {sets} {new} {next} {m} {q} {s} f l v h w p u = rw u filled
     where
       kept : (j i : ℕ) → ¬ (j ≡ m * 64 + q) → memberAt new j i ≡ memberAt sets j i
       kept j i o = p .members j i ∙ rw (ne-eqb j (m * 64 + q) o) (or-false (memberAt sets j i))
@@ -86,42 +92,51 @@ module _ {place : List ℕ} {n words m : ℕ} where
           go (yes e) = eq-eqb (m * 64 + r) (m * 64 + q) (omega arith) ∙ sym (eq-eqb q r e)
           go (no o) = ne-eqb (m * 64 + r) (m * 64 + q) (λ e. o (omega arith)) ∙ sym (ne-eqb q r o)
 
-      filled : Filling place n words m new (x + 1)
+      here : (r i : ℕ) → r < 64 → memberAt new (m * 64 + r) i ≡ holds place m (x + 1) r i
+      here r i b = p .members (m * 64 + r) i ∙ rw (f .left m r i (omega arith) l b, w, one-more (λ j. eqb (entry place (m * 256 + j)) r) x i, sym v, same r)
+
+      at : (k r i : ℕ) → r < 64 → (k < m) ⊎ (k ≡ m) → memberAt new (k * 64 + r) i ≡ holds place k (x + 1) r i
+      at k r i b (inl a) = kept (k * 64 + r) i (λ e. omega arith) ∙ f .done k r i a b
+      at k r i b (inr a) = rw a (here r i b)
+
+      filled : Filling place words machines x new (m + 1)
       filled =
           record {
             most = omega arith;
             size = p .size ∙ f .size;
-            done = λ k r i a b. kept (k * 64 + r) i (λ e. omega arith) ∙ f .done k r i a b;
-            here = λ r i b. p .members (m * 64 + r) i ∙ rw (f .here r i b, w, one-more (λ j. eqb (entry place (m * 256 + j)) r) x i, sym v, same r);
+            done = λ k r i a b. at k r i b (below-suc k m (omega arith));
+            left = λ k r i a c b. kept (k * 64 + r) i (λ e. omega arith) ∙ f .left k r i (omega arith) c b;
             others = λ j i a. kept j i (λ e. omega arith) ∙ f .others j i a;
           }
 
-  pub fill-end : {sets : List ℕ} {x : ℕ} → Filling place n words m sets x → n ≤ x → PlaceSets place n words (suc m) sets
-  fill-end {sets} {x} f l = record { size = f .size; members = λ k q i b h. at k q i h (below-suc k m b); others = f .others }
-    where
-      all : x ≡ n
-      all = omega arith
+  pub fill-end : {sets : List ℕ} {m : ℕ} → Filling place words machines x sets m → machines ≤ m → PlaceSets place (suc x) words machines sets
+  fill-end {sets} {m} f l = rw (← add-one x) (record { size = f .size; members = λ k q i b h. f .done k q i (omega arith) h; others = f .others })
 
-      at : (k q i : ℕ) → q < 64 → (k < m) ⊎ (k ≡ m) → memberAt sets (k * 64 + q) i ≡ holds place k n q i
-      at k q i h (inl b) = f .done k q i b h
-      at k q i h (inr b) = rw (b, sym all) (f .here q i h)
-
--- ---- machine by machine
--- the sets of the first m machines, which are at most all
-pub record Made (place : List ℕ) (n words machines : ℕ) (sets : List ℕ) (m : ℕ) : Type 0 where
-  pub most : m ≤ machines
-  pub made : PlaceSets place n words m sets
+-- ---- state by state
+-- the places of the first x states, which are at most all
+pub record Made (place : List ℕ) (n words machines : ℕ) (sets : List ℕ) (x : ℕ) : Type 0 where
+  pub most : x ≤ n
+  pub made : PlaceSets place x words machines sets
 
 module _ {place : List ℕ} {n words machines : ℕ} where
   pub made-start : {sets : List ℕ} → PlaceSets place n words 0 sets → Made place n words machines sets 0
-  made-start p = record { most = omega arith; made = p }
+  made-start p =
+      record {
+        most = omega arith;
+        made =
+            record {
+              size = p .size;
+              members = λ k q i a b. p .others (k * 64 + q) i (omega arith) ∙ rw (le-ltb i 0 (omega arith));
+              others = λ j i l. p .others j i (omega arith);
+            };
+      }
 
-  pub made-more : {sets next : List ℕ} {m : ℕ} → Made place n words machines sets m → m < machines → PlaceSets place n (length sets) (suc m) next
-      → Made place n words machines next (m + 1)
-  made-more {m = m} d l p = record { most = omega arith; made = rw (add-one m, sym (d .made .size)) p }
+  pub made-more : {sets next : List ℕ} {x : ℕ} → Made place n words machines sets x → x < n → PlaceSets place (suc x) (length sets) machines next
+      → Made place n words machines next (x + 1)
+  made-more {x = x} d l p = record { most = omega arith; made = rw (add-one x, sym (d .made .size)) p }
 
-  pub made-end : {sets : List ℕ} {m : ℕ} → Made place n words machines sets m → machines ≤ m → PlaceSets place n words machines sets
-  made-end {sets} {m} d l = let q : m ≡ machines = omega arith in subst (λ (k : ℕ). PlaceSets place n words k sets) q (d .made)
+  pub made-end : {sets : List ℕ} {x : ℕ} → Made place n words machines sets x → n ≤ x → PlaceSets place n words machines sets
+  made-end {sets} {x} d l = let q : x ≡ n = omega arith in subst (λ (k : ℕ). PlaceSets place k words machines sets) q (d .made)
 
 -- no machine yet
 pub no-machines : (place : List ℕ) (n words : ℕ) → PlaceSets place n words 0 (replicate words 0)

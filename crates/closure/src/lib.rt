@@ -19,10 +19,11 @@ use rows::narrow;
 use rows::wide;
 use state_set::Found;
 use state_set::StateSet;
-use state_set::insert;
+use state_set::join_at;
 use state_set::load;
 use state_set::lowest;
 use state_set::meet;
+use state_set::single;
 use state_set::without;
 
 // Four words for each place of each machine.
@@ -33,32 +34,31 @@ pub const FEW_MACHINES: usize = 2;
 
 pub const FEW_PLACE_WORDS: usize = 512;
 
-// The places of machine m as sets, in one pass over its states.
-fn add_places(place: &[u8], n: usize, m: usize, sets: &mut [u64])
-    requires { ⌜ (n ≤ 256) × (m < 16) × (suc m * 256 ≤ length (now sets)) × (length (now place) ≡ 4096) × PlaceSets (now place) n (length (now sets)) m (now sets) ⌝ }
-    ensures { λ _. ⌜ PlaceSets (now (place .entry)) n (length (now (sets .entry))) (suc m) (now (sets .exit)) ⌝ }
+// State x joins the set of its place in each machine.
+fn add_state(place: &[u8], x: usize, machines: usize, sets: &mut [u64])
+    requires { ⌜ (x < 256) × (machines ≤ 16) × (machines * 256 ≤ length (now sets)) × (length (now place) ≡ 4096) × PlaceSets (now place) x (length (now sets)) machines (now sets) ⌝ }
+    ensures { λ _. ⌜ PlaceSets (now (place .entry)) (suc x) (length (now (sets .entry))) machines (now (sets .exit)) ⌝ }
 {
-    let from = m * MAX_STATES;
-    let first = m * MAX_PLACES;
-    let mut x = 0;
-    while x < n {
-        let q = wide(place[from + x]);
+    let one = single(narrow(x));
+    let mut m = 0;
+    while m < machines {
+        let q = wide(place[m * MAX_STATES + x]);
         if q < MAX_PLACES {
-            insert(sets, first + q, narrow(x));
+            join_at(sets, m * MAX_PLACES + q, one);
         }
-        x += 1;
+        m += 1;
     }
 }
 
 // The places of all machines as sets, in a row of empty sets.
-fn add_machines(place: &[u8], n: usize, machines: usize, sets: &mut [u64])
+fn add_states(place: &[u8], n: usize, machines: usize, sets: &mut [u64])
     requires { ⌜ (n ≤ 256) × (machines ≤ 16) × (machines * 256 ≤ length (now sets)) × (length (now place) ≡ 4096) × PlaceSets (now place) n (length (now sets)) 0 (now sets) ⌝ }
     ensures { λ _. ⌜ PlaceSets (now (place .entry)) n (length (now (sets .entry))) machines (now (sets .exit)) ⌝ }
 {
-    let mut m = 0;
-    while m < machines {
-        add_places(place, n, m, sets);
-        m += 1;
+    let mut x = 0;
+    while x < n {
+        add_state(place, x, machines, sets);
+        x += 1;
     }
 }
 
@@ -179,7 +179,7 @@ pub fn check_cover_in(
     if event < events {
         return Verdict::Refused(Refusal::IneffectiveEvent { event });
     }
-    add_machines(place, c.states, machines, sets);
+    add_states(place, c.states, machines, sets);
     check_closed(sets, pre, excited, machines, events)
 }
 

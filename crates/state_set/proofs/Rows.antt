@@ -11,9 +11,9 @@ use lib.Dec.{eqb, ltb}
 use lib.ListN.{length, getD, set, replicate, length-set, getD-replicate}
 use lib.Seq.{getD-set-same, getD-set-other}
 use Rattle.state_set.specs.Member.{bit, member, wordAt}
-use Rattle.state_set.specs.Rows.{setAt, memberAt, Stored, Inserted}
+use Rattle.state_set.specs.Rows.{setAt, memberAt, Stored, Inserted, WordJoined, Joined}
 use Rattle.state_set.specs.declared.StateSet.{StateSet}
-use Rattle.state_set.proofs.Digits.{or-bit}
+use Rattle.state_set.proofs.Digits.{zero-bit, or-bit}
 use Rattle.state_set.proofs.Sets.{no-member, empty-member, fullWord, full-member, shifted, shifted-bit}
 
 -- ---- a set is stored, word by word
@@ -135,6 +135,59 @@ module _ (old : List ℕ) (k x : ℕ) (low : x < 256) (h : k * 4 + 3 < length ol
       at j i (yes l) (no n) = other-word j i l n
       at j i (no m) d =
           rw (no-digit added j i (omega arith), no-digit old j i (omega arith), ne-eqb i x (λ e. m (omega arith))) (sym (and-false (eqb j k)))
+
+-- ---- a set is joined to another, word by word
+pub word-joined : (old : List ℕ) (at word : ℕ) → at < length old → WordJoined at word old (set old at (bitOr (getD old at 0) word))
+word-joined old at word l = record { size = length-set old at _; digits = λ p i. go p i (ℕ-discrete p at) }
+  where
+    go : (p i : ℕ) → Dec (p ≡ at) → bit (getD (set old at (bitOr (getD old at 0) word)) p 0) i ≡ (bit (getD old p 0) i || (eqb p at && bit word i))
+    go p i (yes e) = rw (e, getD-set-same old at (bitOr (getD old at 0) word) 0 l, eq-eqb at at refl) (or-bit (getD old at 0) word i)
+    go p i (no n) = rw (getD-set-other old at p (bitOr (getD old at 0) word) 0 n, ne-eqb p at n) (sym (or-false (bit (getD old p 0) i)))
+
+pub word-empty : (old : List ℕ) (at word : ℕ) → word ≡ 0 → WordJoined at word old old
+word-empty old at word q =
+    record { size = refl; digits = λ p i. rw (q, zero-bit i, and-false (eqb p at)) (sym (or-false (bit (getD old p 0) i))) }
+
+module _ {at word : ℕ} {old new : List ℕ} (s : WordJoined at word old new) (p i : ℕ) where
+  joined-there : p ≡ at → bit (getD new p 0) i ≡ (bit (getD old p 0) i || bit word i)
+  joined-there e = s .digits p i ∙ rw (eq-eqb p at e)
+
+  joined-else : ¬ (p ≡ at) → bit (getD new p 0) i ≡ bit (getD old p 0) i
+  joined-else n = s .digits p i ∙ rw (ne-eqb p at n) (or-false (bit (getD old p 0) i))
+
+module _ {k : ℕ} {a : StateSet} {old r1 r2 r3 new : List ℕ} (s0 : WordJoined (k * 4) (a .w0) old r1) (s1 : WordJoined (k * 4 + 1) (a .w1) r1 r2) (s2 : WordJoined (k * 4 + 2) (a .w2) r2 r3) (s3 : WordJoined (k * 4 + 3) (a .w3) r3 new) where
+  joined-word : (j q d : ℕ) → q < 4 → Dec (j ≡ k) → bit (getD new (j * 4 + q) 0) d ≡ (bit (getD old (j * 4 + q) 0) d || (eqb j k && bit (wordAt a q) d))
+  unfolding wordAt
+  joined-word j q d l (no n) =
+      joined-else s3 (j * 4 + q) d (λ e. n (omega arith))
+      ∙ joined-else s2 (j * 4 + q) d (λ e. n (omega arith))
+      ∙ joined-else s1 (j * 4 + q) d (λ e. n (omega arith))
+      ∙ joined-else s0 (j * 4 + q) d (λ e. n (omega arith))
+      ∙ rw (ne-eqb j k n) (sym (or-false (bit (getD old (j * 4 + q) 0) d)))
+  joined-word j q d l (yes e) = rw (eq-eqb j k e) (here q l)
+    where
+      here : (q : ℕ) → q < 4 → bit (getD new (j * 4 + q) 0) d ≡ (bit (getD old (j * 4 + q) 0) d || bit (wordAt a q) d)
+      here zero l =
+          joined-else s3 (j * 4 + 0) d (λ z. omega arith) ∙ joined-else s2 (j * 4 + 0) d (λ z. omega arith)
+          ∙ joined-else s1 (j * 4 + 0) d (λ z. omega arith) ∙ joined-there s0 (j * 4 + 0) d (omega arith)
+      here (suc zero) l =
+          joined-else s3 (j * 4 + 1) d (λ z. omega arith) ∙ joined-else s2 (j * 4 + 1) d (λ z. omega arith)
+          ∙ joined-there s1 (j * 4 + 1) d (omega arith) ∙ rw (joined-else s0 (j * 4 + 1) d (λ z. omega arith))
+      here (suc (suc zero)) l =
+          joined-else s3 (j * 4 + 2) d (λ z. omega arith) ∙ joined-there s2 (j * 4 + 2) d (omega arith)
+          ∙ rw (joined-else s1 (j * 4 + 2) d (λ z. omega arith), joined-else s0 (j * 4 + 2) d (λ z. omega arith))
+      here (suc (suc (suc zero))) l =
+          joined-there s3 (j * 4 + 3) d (omega arith)
+          ∙ rw (joined-else s2 (j * 4 + 3) d (λ z. omega arith), joined-else s1 (j * 4 + 3) d (λ z. omega arith), joined-else s0 (j * 4 + 3) d (λ z. omega arith))
+      here (suc (suc (suc (suc q)))) l = absurd (omega arith)
+
+  pub joined : Joined k a old new
+  unfolding member
+  joined = record { size = s3 .size ∙ s2 .size ∙ s1 .size ∙ s0 .size; members = λ j i. at j i (decLt i 256) }
+    where
+      at : (j i : ℕ) → Dec (i < 256) → memberAt new j i ≡ (memberAt old j i || (eqb j k && member a i))
+      at j i (yes l) = rw (digit-at new j i l, digit-at old j i l) (joined-word j (i / 64) (i % 64) (omega arith) (ℕ-discrete j k))
+      at j i (no m) = rw (no-digit new j i (omega arith), no-digit old j i (omega arith), no-member a i (omega arith)) (sym (and-false (eqb j k)))
 
 -- ---- a fresh row
 zero-at : (n p : ℕ) → _≡_ {A = ℕ} (getD (replicate n 0) p 0) 0

@@ -6,7 +6,7 @@ use mathlib.Core.List.{List}
 use lib.Dec.{eqb}
 use lib.ListN.{length, getD}
 use Rattle.state_set.specs.declared.StateSet.{StateSet}
-use Rattle.state_set.specs.Member.{member}
+use Rattle.state_set.specs.Member.{bit, member}
 
 unfoldable pub setAt : List ℕ → ℕ → StateSet
 setAt row k =
@@ -30,3 +30,13 @@ pub record Stored (k : ℕ) (a : StateSet) (old new : List ℕ) : Type 0 where
 pub record Inserted (k state : ℕ) (old new : List ℕ) : Type 0 where
   pub size : length new ≡ length old
   pub members : (j i : ℕ) → memberAt new j i ≡ (memberAt old j i || (eqb j k && eqb i state))
+
+-- the word at a position has the digits of another too, the others are as they were
+pub record WordJoined (at word : ℕ) (old new : List ℕ) : Type 0 where
+  pub size : length new ≡ length old
+  pub digits : (p i : ℕ) → bit (getD new p 0) i ≡ (bit (getD old p 0) i || (eqb p at && bit word i))
+
+-- set k has the states of a too, the others are as they were
+pub record Joined (k : ℕ) (a : StateSet) (old new : List ℕ) : Type 0 where
+  pub size : length new ≡ length old
+  pub members : (j i : ℕ) → memberAt new j i ≡ (memberAt old j i || (eqb j k && member a i))

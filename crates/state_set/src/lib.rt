@@ -8,7 +8,7 @@ ghost use lib.Dec.{eqb};
 ghost use lib.ListN.{length};
 ghost use Rattle.model.specs.Lists.{lowest};
 ghost use Rattle.state_set.specs.Member.{member, stateFound};
-ghost use Rattle.state_set.specs.Rows.{setAt, memberAt, Stored, Inserted};
+ghost use Rattle.state_set.specs.Rows.{setAt, memberAt, Stored, Inserted, WordJoined, Joined};
 
 // A word of the set of all states.
 pub const FULL_WORD: u64 = 0xffff_ffff_ffff_ffff;
@@ -181,4 +181,26 @@ pub fn insert(row: &mut [u64], k: usize, state: u8)
 {
     let at = k * 4 + (state / 64) as usize;
     row[at] = row[at] | 1u64 << (state % 64);
+}
+
+// Adds the states of a word to a word of a row, if it has any.
+fn join_word(row: &mut [u64], at: usize, word: u64)
+    requires { ⌜ at < length (now row) ⌝ }
+    ensures { λ _. ⌜ WordJoined at word (now (row .entry)) (now (row .exit)) ⌝ }
+{
+    if word != 0 {
+        row[at] = row[at] | word;
+    }
+}
+
+// Adds the states of a set to set k of a row. A set of one state changes one word.
+pub fn join_at(row: &mut [u64], k: usize, a: StateSet)
+    requires { ⌜ k * 4 + 3 < length (now row) ⌝ }
+    ensures { λ _. ⌜ Joined k a (now (row .entry)) (now (row .exit)) ⌝ }
+{
+    let at = k * 4;
+    join_word(row, at, a.w0);
+    join_word(row, at + 1, a.w1);
+    join_word(row, at + 2, a.w2);
+    join_word(row, at + 3, a.w3);
 }

@@ -14,8 +14,8 @@ returns : tie.Need-returns
 unfolding verdictRefusal tabled
 returns c = (cover-refused _ _ (c .before .ineffective-event .ensures) (c .if1 .taken) refl, no-pass _)
 
-add-machines-requires : tie.Need-add-machines-requires
-add-machines-requires c κs = search needs
+add-states-requires : tie.Need-add-states-requires
+add-states-requires c κs = search needs
 
 check-closed-requires : tie.Need-check-closed-requires
 check-closed-requires c κs = search needs
@@ -27,10 +27,10 @@ returns-2 : tie.Need-returns-2
 returns-2 c =
     let filled = c .before .before .before .before in
     let other = filled .before .before in (
-      cover-passed _ _ (other .before .ineffective-event .ensures) (other .if1 .left) (filled .add-machines .ensures) (c .check-closed .ensures),
-      λ _. filled .add-machines .ensures,
+      cover-passed _ _ (other .before .ineffective-event .ensures) (other .if1 .left) (filled .add-states .ensures) (c .check-closed .ensures),
+      λ _. filled .add-states .ensures,
     )
 
 pub check-cover-in-spec : {M : Type 1} → statement M
 check-cover-in-spec =
-    tie.close (tie.spec ineffective-event-requires returns add-machines-requires check-closed-requires same-length returns-2)
+    tie.close (tie.spec ineffective-event-requires returns add-states-requires check-closed-requires same-length returns-2)

@@ -1,19 +1,17 @@
 -- What the scan of a machine has found so far. The code has no row of events, so what speaks of one holds for each that the chains are made from.
-use Prim.Native.Nat.{ℕ, suc, _+_, _*_, _<_, _≤_}
+use Prim.Native.Nat.{ℕ, _+_, _*_, _<_, _≤_}
 use native.Mathlib.Omega.{arith}
-use mathlib.Core.Path.{_≡_, refl, ap, _∙_, subst}
-use mathlib.Core.Logic.{_⊎_, inl, inr}
+use mathlib.Core.Path.{_≡_, refl, ap, _∙_}
 use mathlib.Core.Bool.{Bool, true, false, not}
 use mathlib.Core.List.{List}
 use lib.Dec.{T}
 use lib.ListN.{set, length-set}
 use lib.Seq.{getD-set-same, getD-set-other}
 use borrow.Author.Count.{below-none, below-more}
-use borrow.Author.Tests.{not-false}
 use Rattle.model.specs.Lists.{every}
 use Rattle.model.specs.TransitionSystem.{TransitionSystem}
 use Rattle.model.specs.Machine.{Machine, uniform, nonuniformEvent}
-use Rattle.model.proofs.Laws.{not-T, contra, order}
+use Rattle.model.proofs.Laws.{not-T, contra}
 use Rattle.rows.specs.Told.{entry, transitionAt}
 use Rattle.rows.proofs.Searches.{searched}
 use Rattle.regions.specs.declared.crossings.Crossing.{Crossing}
@@ -22,7 +20,7 @@ use Rattle.regions.specs.Indexed.{Indexed, Chained}
 use Rattle.regions.specs.Crossings.{crossingAt, agreeing, preMark, Scannable, Scanned, EarlierKept}
 use Rattle.regions.proofs.crossings.Alike.{Level, level-uniform}
 use Rattle.regions.proofs.chains.Links.{first-next}
-use Rattle.regions.proofs.chains.Walks.{Walk, walk-next, T-passed, T-failed}
+use Rattle.regions.proofs.chains.Walks.{Walk, walk-next, T-passed}
 use Rattle.regions.proofs.crossings.Crossed.{rows-level, rows-uneven, rows-move}
 
 -- the transitions of event e before k agree with the crossing

@@ -11,7 +11,6 @@ use lib.Seq.{getD-set-same, getD-set-other}
 use Rattle.model.proofs.Laws.{and-l, and-r, T-true}
 use Rattle.rows.specs.declared.Counts.{Counts}
 use Rattle.rows.specs.Told.{entry}
-use Rattle.regions.specs.declared.crossings.Crossing.{Crossing}
 use Rattle.regions.specs.Crossings.{crossingAt}
 use Rattle.regions.specs.Columns.{laneAt, Lane, PutLane, Comparable, FirstUneven, AlikeAtOnce}
 use Rattle.regions.proofs.lanes.Lanes.{lane-of}

@@ -1,5 +1,4 @@
 -- `pass_at_once` meets its contract. The laws are in `AtOnce`.
-use native.Mathlib.Omega.{arith}
 use borrow.Author.Needs.{needs}
 use borrow.Author.Tests.{not-false}
 use denote.Ref.{now}
