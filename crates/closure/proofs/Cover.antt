@@ -68,7 +68,7 @@ module _ {ts : TransitionSystem} {ms : Decomposition} {pre post sets excitations
       go : (t : Bool) → ltb (entry pre (e * 16 + k)) 64 ≡ t → meets sets pre e k i ≡ ready ts e i m
       go true q =
           rw (q, sym (told .moves .move k e m a l), q)
-          (told .place k (entry pre (e * 16 + k)) i m a (ltb-true (entry pre (e * 16 + k)) 64 q) ∙ rw (lt-ltb i (ts .states) b))
+          (told .places .each k (entry pre (e * 16 + k)) i m a (ltb-true (entry pre (e * 16 + k)) 64 q) ∙ rw (lt-ltb i (ts .states) b))
       go false q = rw (q, sym (told .moves .move k e m a l), q)
 
   pub common-first : (e i n : ℕ) → e < ts .events → i < ts .states → n ≤ length ms → commonTo sets pre e n i ≡ every (ready ts e i) (take n ms)
@@ -87,7 +87,7 @@ module _ {ts : TransitionSystem} {ms : Decomposition} {pre post sets excitations
   pub meets-past : (e k i : ℕ) (m : Machine) → At ms k m → ts .states ≤ i → onMachine pre e k ≡ true → meets sets pre e k i ≡ false
   unfolding meets onMachine
   meets-past e k i m a b t =
-      rw t (told .place k (entry pre (e * 16 + k)) i m a (ltb-true (entry pre (e * 16 + k)) 64 t) ∙ rw (le-ltb i (ts .states) b))
+      rw t (told .places .each k (entry pre (e * 16 + k)) i m a (ltb-true (entry pre (e * 16 + k)) 64 t) ∙ rw (le-ltb i (ts .states) b))
 
   pub common-past : (e i n : ℕ) → ts .states ≤ i → n ≤ length ms → onSome pre e n ≡ true → commonTo sets pre e n i ≡ false
   unfolding commonTo onSome
@@ -116,13 +116,13 @@ sets-told {ts} {ms} {place = place} told filled count =
       events = told .events;
       machines = told .machines;
       moves = told .moves;
-      place = λ k q i m a l. filled .members k q i (omega (arith, at-below ms k m a, count)) l ∙ at k q i m a (order i (ts .states));
+      places = record { each = λ k q i m a l. filled .members k q i (omega (arith, at-below ms k m a, count)) l ∙ at k q i m a (order i (ts .states)) };
       excitations = told .excitations;
     }
   where
     at : (k q i : ℕ) (m : Machine) → At ms k m → (i < ts .states) ⊎ (ts .states ≤ i)
         → (ltb i (ts .states) && eqb (entry place (k * 256 + i)) q) ≡ (ltb i (ts .states) && eqb (placeOf m i) q)
-    at k q i m a (inl b) = rw (told .places k i m a b)
+    at k q i m a (inl b) = rw (told .places .each k i m a b)
     at k q i m a (inr b) = rw (le-ltb i (ts .states) b)
 
 -- a refusal is none that lets pass

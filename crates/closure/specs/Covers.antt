@@ -57,23 +57,30 @@ unfoldable pub openRefusal : (ℕ → Option ℕ) → ℕ → Option Refusal
 openRefusal lowestOpen zero = none
 openRefusal lowestOpen (suc n) = orElse (openRefusal lowestOpen n) (Option·map (λ s. refuse 12 n s) (lowestOpen n))
 
--- the rows tell all that 11 and 12 ask for: the moves of the machines, the place of each state, the excitation sets
-pub record CoverTold (ts : TransitionSystem) (ms : Decomposition) (pre post place excited : List ℕ) : Type 0 where
+-- the rows tell the moves of the machines and the excitation sets, and their places in some form
+pub record MachinesHeld (ts : TransitionSystem) (ms : Decomposition) (pre post excited : List ℕ) (Places : Type 0) : Type 0 where
   pub states : ts .states ≤ 256
   pub events : ts .events ≤ 64
   pub machines : length ms ≤ 16
   pub moves : MovesTold ts ms pre post
-  pub places : (k i : ℕ) (m : Machine) → At ms k m → i < ts .states → entry place (k * 256 + i) ≡ placeOf m i
+  pub places : Places
   pub excitations : Excitations (ts .transitions) excited
 
+-- the place of each state, in a row
+pub record InPlaces (ts : TransitionSystem) (ms : Decomposition) (place : List ℕ) : Type 0 where
+  pub each : (k i : ℕ) (m : Machine) → At ms k m → i < ts .states → entry place (k * 256 + i) ≡ placeOf m i
+
+-- the states of each place, as sets
+pub record InSets (ts : TransitionSystem) (ms : Decomposition) (sets : List ℕ) : Type 0 where
+  pub each : (k q i : ℕ) (m : Machine) → At ms k m → q < 64 → memberAt sets (k * 64 + q) i ≡ (ltb i (ts .states) && eqb (placeOf m i) q)
+
+-- all that 11 and 12 ask for
+abbrev pub CoverTold : TransitionSystem → Decomposition → List ℕ → List ℕ → List ℕ → List ℕ → Type 0
+CoverTold ts ms pre post place excited = MachinesHeld ts ms pre post excited (InPlaces ts ms place)
+
 -- the same with the places as sets
-pub record SetsTold (ts : TransitionSystem) (ms : Decomposition) (pre post sets excited : List ℕ) : Type 0 where
-  pub states : ts .states ≤ 256
-  pub events : ts .events ≤ 64
-  pub machines : length ms ≤ 16
-  pub moves : MovesTold ts ms pre post
-  pub place : (k q i : ℕ) (m : Machine) → At ms k m → q < 64 → memberAt sets (k * 64 + q) i ≡ (ltb i (ts .states) && eqb (placeOf m i) q)
-  pub excitations : Excitations (ts .transitions) excited
+abbrev pub SetsTold : TransitionSystem → Decomposition → List ℕ → List ℕ → List ℕ → List ℕ → Type 0
+SetsTold ts ms pre post sets excited = MachinesHeld ts ms pre post excited (InSets ts ms sets)
 
 -- the verdict is that of 11 and 12 for any machines of which the rows tell
 pub record CoverJudged (c : Counts) (pre place excited : List ℕ) (r : Verdict) : Type 0 where

@@ -19,8 +19,8 @@ use Rattle.model.proofs.Verdicts.{verdict7}
 use Rattle.rows.specs.declared.Verdict.the-variants.{Refused, Passed}
 use Rattle.writers.specs.Written.{Writes}
 use Rattle.rows.proofs.Verdicts.{was-passed, refused-as, lets-pass}
-use Rattle.naming.specs.declared.NamePart.{NamePart}
-use Rattle.naming.specs.Parts.{Named}
+use Rattle.name_service.specs.declared.NamePart.{NamePart}
+use Rattle.name_service.specs.Parts.{Named}
 use Rattle.printing.specs.Shown.{Shows}
 use Rattle.printing.proofs.Showing.{shows-written, shows-same}
 

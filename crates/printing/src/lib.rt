@@ -12,7 +12,7 @@ ghost use Rattle.writers.specs.Written.{Writes};
 ghost use Rattle.printing.specs.Shown.{Shows, keptBelow};
 use model::MAX_MACHINES;
 use model::Refusal;
-use naming::name_in_plan;
+use name_service::name_in_plan;
 use product::Outcome;
 use rows::Verdict;
 use rows::wide;

@@ -29,12 +29,6 @@ agreeing a b = cond (eqb (a .pre) (a .post)) (eqb (b .pre) (b .post)) (eqb (a .p
 unfoldable pub preMark : Crossing → ℕ
 preMark a = cond (eqb (a .pre) (a .post)) 255 (a .pre)
 
--- the rows that crossings are read from
-pub record RowSizes (source target place : List ℕ) : Type 0 where
-  pub sources : length source ≡ 1024
-  pub targets : length target ≡ 1024
-  pub places : length place ≡ 4096
-
 -- the rows give the transition system and its machine k, past 8 and 9
 pub record Scannable (ts : TransitionSystem) (m : Machine) (k : ℕ) (source event target place : List ℕ) (n : ℕ) : Type 0 where
   pub within : Within ts

@@ -14,24 +14,19 @@ use Rattle.rows.specs.declared.Verdict.the-variants.{Passed}
 use Rattle.rows.specs.Tables.{verdictRefusal, tablesIn}
 use Rattle.rows.specs.Told.{systemOf, MachinesTold}
 use Rattle.rows.specs.Bounded.{Bounded}
+use Rattle.rows.specs.Sizes.{CheckedSizes}
 use Rattle.regions.specs.Moves.{MoveRows, MovesTold}
 use Rattle.regions.specs.Indexed.{Indexed}
-use Rattle.regions.specs.Crossings.{RowSizes}
 
 -- the tables but for names and sizes, which no check here reads
 abbrev pub rowsOf : Counts → List ℕ → List ℕ → List ℕ → List ℕ → List ℕ → Tables
 rowsOf c source event target duplicate place = tablesIn c [] [] source event target [] duplicate place
 
-pub record RowLengths (source event target duplicate place : List ℕ) : Type 0 where
-  pub crossed : RowSizes source target place
-  pub events : length event ≡ 1024
-  pub duplicates : length duplicate ≡ 16
-
 -- past 1 to 7
 pub record Checkable (c : Counts) (source event target duplicate place pre post : List ℕ) : Type 0 where
   pub bounded : Bounded (rowsOf c source event target duplicate place)
   pub used : unusedEvent (systemOf (rowsOf c source event target duplicate place)) ≡ none
-  pub lengths : RowLengths source event target duplicate place
+  pub lengths : CheckedSizes source event target duplicate place
   pub rows : MoveRows pre post
 
 -- the verdict on the machines that the tables tell of; passed, the rows have the move of each event on each of them

@@ -5,7 +5,8 @@ ghost use Prim.Native.Nat.{ℕ, _<_, _≤_};
 ghost use lib.ListN.{length};
 ghost use Rattle.rows.specs.Told.{entry};
 ghost use Rattle.regions.specs.Moves.{MoveRows};
-ghost use Rattle.regions.specs.Crossings.{RowSizes, Leading, PutMoves, MovesPut};
+ghost use Rattle.regions.specs.Crossings.{Leading, PutMoves, MovesPut};
+ghost use Rattle.rows.specs.Sizes.{CrossedSizes};
 ghost use Rattle.regions.specs.Regions.{CheckableAlong, PassesAtOnce};
 use super::chains::position;
 use super::crossings::crossing_at;
@@ -41,7 +42,7 @@ fn put_machine(
     pre: &mut [u8],
     post: &mut [u8],
 )
-    requires { ⌜ (events ≤ 64) × (m < 16) × RowSizes (now source) (now target) (now place) ⌝ }
+    requires { ⌜ (events ≤ 64) × (m < 16) × CrossedSizes (now source) (now target) (now place) ⌝ }
     requires { ⌜ Leading (now first) events × MoveRows (now pre) (now post) ⌝ }
     ensures { λ _. ⌜ PutMoves (now (source .entry)) (now (target .entry)) (now (place .entry)) (now (first .entry)) events m (now (pre .entry)) (now (post .entry)) (now (pre .exit)) (now (post .exit)) ⌝ }
 {
@@ -65,7 +66,7 @@ fn put_moves(
     pre: &mut [u8],
     post: &mut [u8],
 )
-    requires { ⌜ (events ≤ 64) × (machines ≤ 16) × RowSizes (now source) (now target) (now place) ⌝ }
+    requires { ⌜ (events ≤ 64) × (machines ≤ 16) × CrossedSizes (now source) (now target) (now place) ⌝ }
     requires { ⌜ Leading (now first) events × MoveRows (now pre) (now post) ⌝ }
     ensures { λ _. ⌜ MovesPut (now (source .entry)) (now (target .entry)) (now (place .entry)) (now (first .entry)) events machines (now (pre .exit)) (now (post .exit)) ⌝ }
 {

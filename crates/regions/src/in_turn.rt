@@ -7,7 +7,8 @@ ghost use Rattle.model.specs.Lists.{lowest};
 ghost use Rattle.rows.specs.Told.{entry, below};
 ghost use Rattle.regions.specs.Moves.{MoveRows};
 ghost use Rattle.regions.specs.Indexed.{Chained};
-ghost use Rattle.regions.specs.Crossings.{RowSizes, ScannedAlong, EarlierKept};
+ghost use Rattle.regions.specs.Crossings.{ScannedAlong, EarlierKept};
+ghost use Rattle.rows.specs.Sizes.{CrossedSizes};
 ghost use Rattle.regions.specs.Regions.{CheckableAlong, ToldAlong};
 use super::chains::position;
 use super::crossings::agrees;
@@ -33,7 +34,7 @@ fn scan_events(
     pre: &mut [u8],
     post: &mut [u8],
 ) -> usize
-    requires { ⌜ (c .transitions ≤ 1024) × (c .events ≤ 64) × (m < 16) × RowSizes (now source) (now target) (now place) ⌝ }
+    requires { ⌜ (c .transitions ≤ 1024) × (c .events ≤ 64) × (m < 16) × CrossedSizes (now source) (now target) (now place) ⌝ }
     requires { ⌜ Chained (c .transitions) (c .events) (now first) (now next) × MoveRows (now pre) (now post) ⌝ }
     ensures { λ r. ⌜ EarlierKept m (now (pre .entry)) (now (post .entry)) (now (pre .exit)) (now (post .exit)) ⌝ }
     ensures { λ r. ⌜ ScannedAlong c (now (source .entry)) (now (target .entry)) (now (place .entry)) (now (first .entry)) (now (next .entry)) m (now (pre .exit)) (now (post .exit)) r ⌝ }

@@ -1,6 +1,5 @@
 -- What passing 1 to 3 leaves of the rows: counts and names within their bounds, and no state or event of a transition that is not declared.
 use Prim.Native.Nat.{ℕ, _+_, _≤_, _<_}
-use mathlib.Core.Path.{_≡_}
 use mathlib.Core.List.{List}
 use lib.ListN.{length}
 use Rattle.rows.specs.declared.Tables.{Tables}
@@ -17,17 +16,6 @@ pub record Bounded (p : Tables) : Type 0 where
   pub target : (k : ℕ) → k < p .counts .transitions → entry (p .target) k < p .counts .states
   pub machines : p .counts .machines ≤ 16
   pub sizes : (k : ℕ) → k < p .counts .machines → entry (p .sizes) k ≤ 64
-
--- the rows have their full sizes
-pub record Sized (p : Tables) : Type 0 where
-  pub name-places : length (p .«name_at») ≡ 64
-  pub name-lengths : length (p .«name_len») ≡ 64
-  pub sources : length (p .source) ≡ 1024
-  pub events : length (p .event) ≡ 1024
-  pub targets : length (p .target) ≡ 1024
-  pub place-counts : length (p .sizes) ≡ 16
-  pub duplicates : length (p .duplicate) ≡ 16
-  pub places : length (p .place) ≡ 4096
 
 -- each of n names, by its place and its length, lies in the text
 unfoldable pub NamesInside : List ℕ → List ℕ → List ℕ → ℕ → Type 0

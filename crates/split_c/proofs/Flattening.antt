@@ -15,8 +15,8 @@ use Rattle.product.specs.declared.Outcome.{Outcome}
 use Rattle.product.specs.declared.Outcome.the-variants as O
 use Rattle.product.specs.declared.RunAnswer.{RunAnswer}
 use Rattle.product.specs.Answers.{outcomeIs, runAnswer}
-use Rattle.naming.specs.declared.NamePart.{NamePart}
-use Rattle.naming.specs.Parts.{Named}
+use Rattle.name_service.specs.declared.NamePart.{NamePart}
+use Rattle.name_service.specs.Parts.{Named}
 use Rattle.answers.specs.declared.Answer.{Answer}
 use Rattle.answers.specs.declared.Answer.the-variants as A
 use Rattle.thin_service.specs.declared.Thinned.{Thinned}

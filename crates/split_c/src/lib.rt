@@ -8,7 +8,7 @@ ghost use Rattle.thin_service.specs.Answers.{numberedSet};
 ghost use Rattle.product.specs.Answers.{outcomeIs};
 ghost use Rattle.split_c.specs.Flat.{flatAnswer, flatPart, flatOutcome, flatRun, flatSet};
 use model::Transition;
-use naming::name_part;
+use name_service::name_part;
 use product::Outcome;
 use rows::Verdict;
 use splitter::Answer;

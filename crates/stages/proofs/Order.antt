@@ -88,7 +88,7 @@ module _ {c : Counts} {source event target duplicate place : List ℕ} where
                   events = b .events;
                   machines = omega (arith, b .machines, m .counted);
                   moves = told ats lens sizes b .1 ms m n;
-                  places = λ k i x a l. told-place m (sym (told ats lens sizes b .0 ms m) ∙ n) (b .states) k i x a l;
+                  places = record { each = λ k i x a l. told-place m (sym (told ats lens sizes b .0 ms m) ∙ n) (b .states) k i x a l };
                   excitations = excitations;
                 };
           }

@@ -21,12 +21,13 @@ use Rattle.rows.specs.Tables.{verdictRefusal, tablesOf, tablesIn}
 use Rattle.rows.specs.declared.Counts.{Counts}
 use Rattle.rows.specs.Told.{systemOf, MachinesTold}
 use Rattle.reader.specs.Lent.{FreshRows, ReadsRows}
-use Rattle.rows.specs.Bounded.{Bounded, Sized, NamesInside}
+use Rattle.rows.specs.Bounded.{Bounded, NamesInside}
 use Rattle.rows.proofs.Bounds.{bounded, names-inside}
 use Rattle.rows.proofs.Fronts.{front-length}
 use Rattle.rows.proofs.Telling.{told-transitions}
 use Rattle.transition_system.specs.Sets.{systemRows}
-use Rattle.regions.specs.Regions.{rowsOf, RowLengths}
+use Rattle.regions.specs.Regions.{rowsOf}
+use Rattle.rows.specs.Sizes.{Sized}
 use Rattle.closure.specs.Covers.{CountsBounded, CoverTold, CoverJudged}
 use Rattle.stages.specs.Order.{refusalTo10, CheckedTo10}
 use Rattle.rows.specs.Rows.{row}
@@ -62,18 +63,16 @@ filled-sized : (v : Input) → Sized (tablesOf v)
 unfolding tablesOf
 filled-sized v =
     record {
+      checked =
+          record {
+            crossed = record { sources = length-row 1024 0 _; targets = length-row 1024 0 _; places = length-row 4096 255 _ };
+            events = length-row 1024 0 _;
+            duplicates = length-row 16 256 _;
+          };
       name-places = length-row 64 0 _;
       name-lengths = length-row 64 0 _;
-      sources = length-row 1024 0 _;
-      events = length-row 1024 0 _;
-      targets = length-row 1024 0 _;
       place-counts = length-row 16 0 _;
-      duplicates = length-row 16 256 _;
-      places = length-row 4096 255 _;
     }
-
-pub row-lengths : {p : Tables} → Sized p → RowLengths (p .source) (p .event) (p .target) (p .duplicate) (p .place)
-row-lengths z = record { crossed = record { sources = z .sources; targets = z .targets; places = z .places }; events = z .events; duplicates = z .duplicates }
 
 -- the text passes 1 to 3, and these rows are filled
 module _ {s : List ℕ} {r : Verdict} {c : Counts} {ats lens sources events targets sizes duplicates places : List ℕ} (h : verdictRefusal r ≡ refusalOf (read s)) (e : r ≡ Passed)

@@ -11,7 +11,8 @@ use Rattle.rows.specs.declared.Tables.{Tables}
 use Rattle.rows.specs.declared.Verdict.{Verdict}
 use Rattle.rows.specs.Tables.{verdictRefusal}
 use Rattle.rows.specs.Told.{Told}
-use Rattle.rows.specs.Bounded.{Bounded, Sized, NamesInside}
+use Rattle.rows.specs.Bounded.{Bounded, NamesInside}
+use Rattle.rows.specs.Sizes.{Sized}
 use Rattle.transition_system.specs.Sets.{Excitations}
 use Rattle.regions.specs.Moves.{MoveRows}
 use Rattle.closure.specs.Covers.{CoverTold}

@@ -3,7 +3,8 @@ ghost use mathlib.Core.Path.{_≡_};
 ghost use Rattle.rows.specs.Tables.{tablesIn};
 ghost use Rattle.rows.specs.Bounded.{Bounded};
 ghost use Rattle.reader.specs.Lent.{FreshRows};
-ghost use Rattle.regions.specs.Regions.{rowsOf, RowLengths};
+ghost use Rattle.regions.specs.Regions.{rowsOf};
+ghost use Rattle.rows.specs.Sizes.{CheckedSizes};
 ghost use Rattle.stages.specs.Order.{ChecksRows};
 ghost use Rattle.stages.specs.Stages.{ReadAsFarAs7, Fresh, ReadAsFarAs10, ReadAsFarAs12};
 use closure::check_cover;
@@ -36,7 +37,7 @@ fn check_as_far_as_10<'a>(
     excited: &mut [u64],
 ) -> Verdict
     requires { ⌜ Bounded (rowsOf c (now source) (now event) (now target) (now duplicate) (now place)) ⌝ }
-    requires { ⌜ RowLengths (now source) (now event) (now target) (now duplicate) (now place) × Fresh (now pre) (now post) (now excited) ⌝ }
+    requires { ⌜ CheckedSizes (now source) (now event) (now target) (now duplicate) (now place) × Fresh (now pre) (now post) (now excited) ⌝ }
     ensures { λ r. ⌜ ChecksRows c (now (source .entry)) (now (event .entry)) (now (target .entry)) (now (duplicate .entry)) (now (place .entry)) (now (pre .exit)) (now (post .exit)) (now (excited .exit)) r ⌝ }
 {
     let system = check_transition_system(c, source, event, target, excited);

@@ -62,7 +62,7 @@ slice-aggregate-hand-over-3 c =
 slice-aggregate-hand-over-4 : tie.Need-slice-aggregate-hand-over-4
 slice-aggregate-hand-over-4 c =
     let past = c .before .before .before .before .before in
-    sym (judged past .past .held .sized .places)
+    sym (judged past .past .held .sized .checked .crossed .places)
 
 slice-aggregate-hand-over-5 : tie.Need-slice-aggregate-hand-over-5
 slice-aggregate-hand-over-5 c = search needs
@@ -75,7 +75,7 @@ hand-over-requires c κs =
     let past = c .before .before .before .before .before .before .before .before in
     let j = judged past in
     let z = j .past .held .sized in
-    (sheet-bounds _ _ _ _ _ _ _ _ _ (j .past .held .bounds) (z .name-lengths) (z .place-counts) (z .places), z .name-places, j .past .cover .moves .rows, j .past .held .names)
+    (sheet-bounds _ _ _ _ _ _ _ _ _ (j .past .held .bounds) (z .name-lengths) (z .place-counts) (z .checked .crossed .places), z .name-places, j .past .cover .moves .rows, j .past .held .names)
 
 same-length : tie.Need-same-length
 same-length c = search needs

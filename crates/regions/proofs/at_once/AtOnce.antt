@@ -15,7 +15,8 @@ use Rattle.rows.specs.Bounded.{Bounded}
 use Rattle.regions.specs.Indexed.{Indexed, Chained}
 use Rattle.regions.specs.Crossings.{Scannable, Scanned, Leading, MovesPut}
 use Rattle.regions.specs.Columns.{Comparable, AlikeAtOnce}
-use Rattle.regions.specs.Regions.{rowsOf, RowLengths, Answer}
+use Rattle.regions.specs.Regions.{rowsOf, Answer}
+use Rattle.rows.specs.Sizes.{CheckedSizes}
 use Rattle.regions.proofs.chains.Links.{first-next}
 use Rattle.regions.proofs.in_turn.Marks.{unplaced-first}
 use Rattle.regions.proofs.in_turn.Scan.{Settled, answered}
@@ -25,7 +26,7 @@ module _ (c : Counts) {source event target duplicate place first next : List ℕ
   pub leading : Leading first (c .events)
   leading = record { size = ch .first-size; low = λ e l. omega (arith, ch .begins e l, b .transitions) }
 
-  pub comparable : RowLengths source event target duplicate place → Comparable source target first next (c .states) (c .events) (c .transitions)
+  pub comparable : CheckedSizes source event target duplicate place → Comparable source target first next (c .states) (c .events) (c .transitions)
   comparable r =
       record {
         source-size = r .crossed .sources;

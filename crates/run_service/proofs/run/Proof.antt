@@ -36,14 +36,14 @@ enum-told : tie.Need-enum-told
 enum-told c = search needs
 
 slice-aggregate-places-of : tie.Need-slice-aggregate-places-of
-slice-aggregate-places-of c = sym (past-text (read (c .before .before) .read-as-far-as-12 .ensures) (c .before .before .enum-told .given .1) .past .held .sized .places)
+slice-aggregate-places-of c = sym (past-text (read (c .before .before) .read-as-far-as-12 .ensures) (c .before .before .enum-told .given .1) .past .held .sized .checked .crossed .places)
 
 places-of-requires : tie.Need-places-of-requires
 places-of-requires c κs =
     let past = c .before .before in
     let j = past-text (read past .read-as-far-as-12 .ensures) (past .enum-told .given .1) in
     let b = j .past .held .bounds in
-    (j .past .held .sized .places, omega (arith, b .initial, b .states), b .machines)
+    (j .past .held .sized .checked .crossed .places, omega (arith, b .initial, b .states), b .machines)
 
 slice-aggregate-run-events : tie.Need-slice-aggregate-run-events
 slice-aggregate-run-events c = search needs

@@ -22,7 +22,7 @@ places-of-requires : tie.Need-places-of-requires
 places-of-requires c κs =
     let j = past-text (c .before .before .before .before .before .before .before .before .before .pre) (c .before .before .before .before .before .enum-told .given .1) in
     let b = j .past .held .bounds in
-    (j .past .held .sized .places, omega (arith, b .initial, b .states), b .machines)
+    (j .past .held .sized .checked .crossed .places, omega (arith, b .initial, b .states), b .machines)
 
 run-events-requires : tie.Need-run-events-requires
 run-events-requires c κs = runnable (past-text (c .before .before .before .before .before .before .before .before .before .before .before .before .before .before .before .pre) (c .before .before .before .before .before .before .before .before .before .before .before .enum-told .given .1)) (c .before .before .before .before .before .places-of .ensures)

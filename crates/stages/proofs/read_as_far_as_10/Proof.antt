@@ -1,6 +1,6 @@
 -- `stages::read_as_far_as_10` meets its contract: both answers are laws of `Stages` at what the calls have said.
 use borrow.Author.Needs.{needs}
-use Rattle.stages.proofs.Stages.{rows-held, row-lengths, rows-bounded, refused-to-3-10, judged-10}
+use Rattle.stages.proofs.Stages.{rows-held, rows-bounded, refused-to-3-10, judged-10}
 use Rattle.stages.proofs.read_as_far_as_10.Statement.{statement}
 use Rattle.stages.proofs.read_as_far_as_10.Tie as tie
 
@@ -26,7 +26,7 @@ check-as-far-as-10-requires c κs =
     let r = t .before .before .read-rows in
     let fresh = t .before .before .before .before .before .before .before .before .before .before .before .before .before .before .before .pre .1 in
     let held = rows-held (r .ensures .0) (t .enum-told2 .given .1) (r .ensures .1) in
-    (rows-bounded (held .bounds), (row-lengths (held .sized), fresh))
+    (rows-bounded (held .bounds), (held .sized .checked, fresh))
 
 same-length : tie.Need-same-length
 same-length c = search needs

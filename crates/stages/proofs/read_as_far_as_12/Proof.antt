@@ -33,7 +33,7 @@ check-cover-requires : tie.Need-check-cover-requires
 check-cover-requires c κs =
     let past = c .before .before .before .before .before in
     let k = past-text-10 (read past .read-as-far-as-10 .ensures) (past .enum-told2 .given .1) in
-    (counts-bounded k, k .held .sized .places, k .cover .excitations .size, k .cover .moves .rows .pre-size)
+    (counts-bounded k, k .held .sized .checked .crossed .places, k .cover .excitations .size, k .cover .moves .rows .pre-size)
 
 same-length-4 : tie.Need-same-length-4
 same-length-4 c = search needs

@@ -31,9 +31,9 @@ check-transition-system-requires c κs =
     let r = t .before .before .read-rows in
     let held = rows-held (r .ensures .0) (t .enum-told2 .given .1) (r .ensures .1) in
     let b = held .bounds in
-    let z = held .sized in (
+    let z = held .sized .checked in (
       (system-bounded (rows-bounded b), no-excitations),
-      (omega (arith, b .transitions, z .sources), omega (arith, b .transitions, z .events), omega (arith, b .transitions, z .targets)),
+      (omega (arith, b .transitions, z .crossed .sources), omega (arith, b .transitions, z .events), omega (arith, b .transitions, z .crossed .targets)),
     )
 
 returns-2 : tie.Need-returns-2

@@ -31,25 +31,25 @@ returns-2 c =
 slice-aggregate-list-transitions : tie.Need-slice-aggregate-list-transitions
 slice-aggregate-list-transitions c =
     let past = c .before .before in
-    sym (read past .read-as-far-as-7 .ensures .held (lets-pass (past .enum-told .given .1)) .sized .sources)
+    sym (read past .read-as-far-as-7 .ensures .held (lets-pass (past .enum-told .given .1)) .sized .checked .crossed .sources)
 
 slice-aggregate-list-transitions-2 : tie.Need-slice-aggregate-list-transitions-2
 slice-aggregate-list-transitions-2 c =
     let past = c .before .before .before in
-    sym (read past .read-as-far-as-7 .ensures .held (lets-pass (past .enum-told .given .1)) .sized .events)
+    sym (read past .read-as-far-as-7 .ensures .held (lets-pass (past .enum-told .given .1)) .sized .checked .events)
 
 slice-aggregate-list-transitions-3 : tie.Need-slice-aggregate-list-transitions-3
 slice-aggregate-list-transitions-3 c =
     let past = c .before .before .before .before in
-    sym (read past .read-as-far-as-7 .ensures .held (lets-pass (past .enum-told .given .1)) .sized .targets)
+    sym (read past .read-as-far-as-7 .ensures .held (lets-pass (past .enum-told .given .1)) .sized .checked .crossed .targets)
 
 list-transitions-requires : tie.Need-list-transitions-requires
 list-transitions-requires c κs =
     let past = c .before .before .before .before .before in
     let passed = lets-pass (past .enum-told .given .1) in
-    let z = read past .read-as-far-as-7 .ensures .held passed .sized in
+    let z = read past .read-as-far-as-7 .ensures .held passed .sized .checked in
     let h = read past .read-as-far-as-7 .ensures .held passed .bounds .transitions in
-    (omega (arith, h, z .sources), omega (arith, h, z .events), omega (arith, h, z .targets), omega (arith, h, c .before .before .before .before .before .before .before .before .before .before .before .before .before .before .before .before .before .before .pre))
+    (omega (arith, h, z .crossed .sources), omega (arith, h, z .events), omega (arith, h, z .crossed .targets), omega (arith, h, c .before .before .before .before .before .before .before .before .before .before .before .before .before .before .before .before .before .before .pre))
 
 same-length : tie.Need-same-length
 same-length c = search needs

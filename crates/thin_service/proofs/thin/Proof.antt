@@ -37,7 +37,7 @@ enum-told c = search needs
 slice-aggregate-remove-redundant : tie.Need-slice-aggregate-remove-redundant
 slice-aggregate-remove-redundant c =
     let at = c .before .before in
-    sym (past-text-10 (read at .read-as-far-as-10 .ensures) (at .enum-told .given .1) .held .sized .places)
+    sym (past-text-10 (read at .read-as-far-as-10 .ensures) (at .enum-told .given .1) .held .sized .checked .crossed .places)
 
 slice-aggregate-remove-redundant-2 : tie.Need-slice-aggregate-remove-redundant-2
 slice-aggregate-remove-redundant-2 c = search needs
@@ -49,7 +49,7 @@ remove-redundant-requires : tie.Need-remove-redundant-requires
 remove-redundant-requires c κs =
     let at = c .before .before .before .before in
     let k = past-text-10 (read at .read-as-far-as-10 .ensures) (at .enum-told .given .1) in
-    (counts-bounded k, k .held .sized .places, k .cover .excitations .size, k .cover .moves .rows .pre-size)
+    (counts-bounded k, k .held .sized .checked .crossed .places, k .cover .excitations .size, k .cover .moves .rows .pre-size)
 
 enum-known-fault : tie.Need-enum-known-fault
 enum-known-fault c = search needs

@@ -9,7 +9,7 @@ use Rattle.model.proofs.Cases.{tabled-injective}
 use Rattle.rows.specs.declared.Verdict.{Verdict}
 use Rattle.rows.specs.declared.Verdict.the-variants as C
 use Rattle.rows.specs.Tables.{verdictRefusal}
-use Rattle.naming.specs.Parts.{PartOf}
+use Rattle.name_service.specs.Parts.{PartOf}
 
 pub verdict-injective : (a b : Verdict) → verdictRefusal a ≡ verdictRefusal b → a ≡ b
 unfolding verdictRefusal

@@ -1,9 +1,9 @@
--- `naming::name` meets its contract: the part that `name_part` ensures, cut out of the caller's text.
+-- `name_service::name` meets its contract: the part that `name_part` ensures, cut out of the caller's text.
 use mathlib.Core.Path.{refl}
 use borrow.Author.Needs.{needs}
-use Rattle.naming.proofs.Naming.{cut}
-use Rattle.naming.proofs.name.Statement.{statement}
-use Rattle.naming.proofs.name.Tie as tie
+use Rattle.name_service.proofs.Naming.{cut}
+use Rattle.name_service.proofs.name.Statement.{statement}
+use Rattle.name_service.proofs.name.Tie as tie
 
 name-part-requires : tie.Need-name-part-requires
 name-part-requires c κs = search needs

@@ -1,11 +1,11 @@
--- `naming::part_in_rows` meets its contract: the rows' own numbers, or 14.
+-- `name_service::part_in_rows` meets its contract: the rows' own numbers, or 14.
 use native.Mathlib.Omega.{arith}
 use mathlib.Core.Path.{refl}
 use borrow.Author.Needs.{needs}
 use denote.Ref.{now}
 use Rattle.rows.proofs.Names.{name-inside}
-use Rattle.naming.proofs.part_in_rows.Statement.{statement}
-use Rattle.naming.proofs.part_in_rows.Tie as tie
+use Rattle.name_service.proofs.part_in_rows.Statement.{statement}
+use Rattle.name_service.proofs.part_in_rows.Tie as tie
 
 mul-from : tie.Need-mul-from
 mul-from c = search needs

@@ -22,8 +22,8 @@ use Rattle.rows.proofs.Telling.{told-events}
 use Rattle.rows.proofs.Names.{name-inside, length-name}
 use Rattle.stages.specs.Stages.{Held}
 use Rattle.rows.proofs.Verdicts.{refused-as}
-use Rattle.naming.specs.declared.NamePart.{NamePart}
-use Rattle.naming.specs.Parts.{NoPart, PartIn, Named}
+use Rattle.name_service.specs.declared.NamePart.{NamePart}
+use Rattle.name_service.specs.Parts.{NoPart, PartIn, Named}
 
 module _ (s : List ℕ) (e : ℕ) {r : NamePart} where
   -- Name is refused

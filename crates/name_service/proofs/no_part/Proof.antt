@@ -1,8 +1,8 @@
--- `naming::no_part` meets its contract: the part is the empty one at the text's beginning.
+-- `name_service::no_part` meets its contract: the part is the empty one at the text's beginning.
 use mathlib.Core.Path.{refl}
 use Rattle.rows.specs.Tables.{verdictRefusal}
-use Rattle.naming.proofs.no_part.Statement.{statement}
-use Rattle.naming.proofs.no_part.Tie as tie
+use Rattle.name_service.proofs.no_part.Statement.{statement}
+use Rattle.name_service.proofs.no_part.Tie as tie
 
 returns : tie.Need-returns
 unfolding verdictRefusal

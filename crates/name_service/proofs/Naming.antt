@@ -6,8 +6,8 @@ use mathlib.Core.Path.{_≡_}
 use mathlib.Core.List.{List}
 use lib.ListN.{take, drop}
 use Rattle.model.specs.Services.{name, handedBack}
-use Rattle.naming.specs.declared.NamePart.{NamePart}
-use Rattle.naming.specs.Parts.{Named, PartOf}
+use Rattle.name_service.specs.declared.NamePart.{NamePart}
+use Rattle.name_service.specs.Parts.{Named, PartOf}
 
 -- the bytes of the text between the ends that the code knows are the part handed back
 pub cut :

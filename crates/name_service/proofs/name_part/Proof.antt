@@ -1,10 +1,10 @@
--- `naming::name_part` meets its contract: each way out is a law of `Parts` at what the calls have said.
+-- `name_service::name_part` meets its contract: each way out is a law of `Parts` at what the calls have said.
 use mathlib.Core.Path.{sym}
 use borrow.Author.Needs.{needs}
 use Rattle.rows.proofs.Verdicts.{lets-pass}
-use Rattle.naming.proofs.Parts.{refused-text, in-rows}
-use Rattle.naming.proofs.name_part.Statement.{statement}
-use Rattle.naming.proofs.name_part.Tie as tie
+use Rattle.name_service.proofs.Parts.{refused-text, in-rows}
+use Rattle.name_service.proofs.name_part.Statement.{statement}
+use Rattle.name_service.proofs.name_part.Tie as tie
 
 read-as-far-as-7-requires : tie.Need-read-as-far-as-7-requires
 read-as-far-as-7-requires c κs = search needs

@@ -6,7 +6,7 @@ ghost use Rattle.model.specs.Services as Services;
 ghost use Rattle.rows.specs.Tables.{verdictRefusal};
 ghost use Rattle.rows.specs.Bounded.{NamesInside};
 ghost use Rattle.stages.specs.Stages.{ReadAsFarAs7};
-ghost use Rattle.naming.specs.Parts.{NoPart, PartIn, Named, PartOf};
+ghost use Rattle.name_service.specs.Parts.{NoPart, PartIn, Named, PartOf};
 use model::MAX_EVENTS;
 use model::MAX_MACHINES;
 use model::MAX_TRANSITIONS;

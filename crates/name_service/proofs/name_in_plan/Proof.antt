@@ -1,9 +1,9 @@
--- `naming::name_in_plan` meets its contract: each way out is a law of `Parts` at what the calls have said.
+-- `name_service::name_in_plan` meets its contract: each way out is a law of `Parts` at what the calls have said.
 use borrow.Author.Needs.{needs}
 use Rattle.rows.proofs.Verdicts.{lets-pass}
-use Rattle.naming.proofs.Parts.{refused-text, in-rows}
-use Rattle.naming.proofs.name_in_plan.Statement.{statement}
-use Rattle.naming.proofs.name_in_plan.Tie as tie
+use Rattle.name_service.proofs.Parts.{refused-text, in-rows}
+use Rattle.name_service.proofs.name_in_plan.Statement.{statement}
+use Rattle.name_service.proofs.name_in_plan.Tie as tie
 
 enum-known-verdict : tie.Need-enum-known-verdict
 enum-known-verdict c = search needs

@@ -12,7 +12,7 @@ use Rattle.model.specs.Services.{Part, name, handedBack, nameRefusal}
 use Rattle.rows.specs.declared.Verdict.the-variants.{Passed}
 use Rattle.rows.specs.Tables.{verdictRefusal}
 use Rattle.rows.specs.Told.{entry}
-use Rattle.naming.specs.declared.NamePart.{NamePart}
+use Rattle.name_service.specs.declared.NamePart.{NamePart}
 
 -- r has this refusal, and the empty part at the text's beginning
 pub record NoPart (why : D.Refusal) (r : NamePart) : Type 0 where
