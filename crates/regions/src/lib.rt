@@ -1,7 +1,6 @@
 // Refusals 8 to 10 of each machine, and the moves of the events on it.
-ghost use mathlib.Core.Path.{_≡_};
 ghost use Prim.Native.Nat.{_≤_};
-ghost use lib.ListN.{length, replicate};
+ghost use lib.ListN.{length};
 ghost use Rattle.regions.specs.Regions.{Checkable, RegionsTold};
 use at_once::pass_at_once;
 use chains::index_by_event;
@@ -35,20 +34,20 @@ fn check_along(
     target: &[u8],
     duplicate: &[usize],
     place: &[u8],
-    first: &mut [u16],
     next: &mut [u16],
     pre: &mut [u8],
     post: &mut [u8],
 ) -> Verdict
-    requires { ⌜ Checkable c (now source) (now event) (now target) (now duplicate) (now place) (now pre) (now post) ⌝ }
-    requires { ⌜ (now first ≡ replicate 64 (c .transitions)) × (c .transitions ≤ length (now next)) ⌝ }
+    requires { ⌜ Checkable c (now source) (now event) (now target) (now duplicate) (now place) (now pre) (now post) × (c .transitions ≤ length (now next)) ⌝ }
     ensures { λ r. ⌜ RegionsTold c (now (source .entry)) (now (event .entry)) (now (target .entry)) (now (duplicate .entry)) (now (place .entry)) r (now (pre .exit)) (now (post .exit)) ⌝ }
 {
-    index_by_event(event, c.transitions, first, next);
-    if pass_at_once(c, source, target, duplicate, place, first, next, pre, post) {
+    let none = short(c.transitions);
+    let mut first = [none; MAX_EVENTS];
+    index_by_event(event, c.transitions, &mut first, next);
+    if pass_at_once(c, source, target, duplicate, place, &first, next, pre, post) {
         return Verdict::Passed;
     }
-    check_in_turn(c, source, target, duplicate, place, first, next, pre, post)
+    check_in_turn(c, source, target, duplicate, place, &first, next, pre, post)
 }
 
 // 8, 9, 10 of each machine. Passed, the rows have the move of each event on each machine.
@@ -65,10 +64,8 @@ pub fn check_regions<'a>(
     requires { ⌜ Checkable c (now source) (now event) (now target) (now duplicate) (now place) (now pre) (now post) ⌝ }
     ensures { λ r. ⌜ RegionsTold c (now (source .entry)) (now (event .entry)) (now (target .entry)) (now (duplicate .entry)) (now (place .entry)) r (now (pre .exit)) (now (post .exit)) ⌝ }
 {
-    let none = short(c.transitions);
-    let mut first = [none; MAX_EVENTS];
     if c.transitions <= FEW_TRANSITIONS {
-        let mut next = [none; FEW_TRANSITIONS];
+        let mut next = [0u16; FEW_TRANSITIONS];
         return check_along(
             c,
             source,
@@ -76,13 +73,12 @@ pub fn check_regions<'a>(
             target,
             duplicate,
             place,
-            &mut first,
             &mut next,
             pre,
             post,
         );
     }
-    let mut next = [none; MAX_TRANSITIONS];
+    let mut next = [0u16; MAX_TRANSITIONS];
     check_along(
         c,
         source,
@@ -90,7 +86,6 @@ pub fn check_regions<'a>(
         target,
         duplicate,
         place,
-        &mut first,
         &mut next,
         pre,
         post,

@@ -1,21 +1,13 @@
 -- `check_regions` meets its contract.
 use borrow.Author.Needs.{needs}
-use mathlib.Core.Path.{ap}
-use lib.ListN.{replicate}
 use Rattle.regions.proofs.check_regions.Statement.{statement}
 use Rattle.regions.proofs.check_regions.Tie as tie
-
-short-requires : tie.Need-short-requires
-short-requires c κs = search needs
 
 slice-aggregate-check-along : tie.Need-slice-aggregate-check-along
 slice-aggregate-check-along c = search needs
 
-slice-aggregate-check-along-2 : tie.Need-slice-aggregate-check-along-2
-slice-aggregate-check-along-2 c = search needs
-
 check-along-requires : tie.Need-check-along-requires
-check-along-requires c κs = let s = c .before .before .before .before .before .before in (s .before .before .before .before .before .before .before .before .pre, (ap (replicate 64) (s .short .ensures), search needs))
+check-along-requires c κs = (c .before .before .before .before .before .before .before .before .before .before .before .before .pre, search needs)
 
 same-length : tie.Need-same-length
 same-length c = search needs
@@ -26,14 +18,11 @@ same-length-2 c = search needs
 returns : tie.Need-returns
 returns c = search needs
 
-slice-aggregate-check-along-3 : tie.Need-slice-aggregate-check-along-3
-slice-aggregate-check-along-3 c = search needs
-
-slice-aggregate-check-along-4 : tie.Need-slice-aggregate-check-along-4
-slice-aggregate-check-along-4 c = search needs
+slice-aggregate-check-along-2 : tie.Need-slice-aggregate-check-along-2
+slice-aggregate-check-along-2 c = search needs
 
 check-along-requires-2 : tie.Need-check-along-requires-2
-check-along-requires-2 c κs = let s = c .before .before .before .before .before .before in (s .before .before .before .before .before .before .before .before .pre, (ap (replicate 64) (s .short .ensures), search needs))
+check-along-requires-2 c κs = (c .before .before .before .before .before .before .before .before .before .before .before .before .pre, search needs)
 
 same-length-3 : tie.Need-same-length-3
 same-length-3 c = search needs
@@ -48,15 +37,12 @@ pub check-regions-spec : {M : Type 1} → statement M
 check-regions-spec =
     tie.close
     (tie.spec
-    short-requires
     slice-aggregate-check-along
-    slice-aggregate-check-along-2
     check-along-requires
     same-length
     same-length-2
     returns
-    slice-aggregate-check-along-3
-    slice-aggregate-check-along-4
+    slice-aggregate-check-along-2
     check-along-requires-2
     same-length-3
     same-length-4
