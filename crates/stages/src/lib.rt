@@ -1,20 +1,16 @@
 // A text read and checked as far as a row of document 01's table: what a service begins with.
 ghost use mathlib.Core.Path.{_≡_};
 ghost use Rattle.rows.specs.Tables.{tablesIn};
-ghost use Rattle.rows.specs.Bounded.{Bounded};
 ghost use Rattle.reader.specs.Lent.{FreshRows};
-ghost use Rattle.regions.specs.Regions.{rowsOf};
-ghost use Rattle.rows.specs.Sizes.{CheckedSizes};
-ghost use Rattle.stages.specs.Order.{ChecksRows};
 ghost use Rattle.stages.specs.Stages.{ReadAsFarAs7, Fresh, ReadAsFarAs10, ReadAsFarAs12};
 use closure::check_cover;
+use in_turn::check_as_far_as_10;
 use model::MAX_EVENTS;
 use model::MAX_MACHINES;
 use model::MAX_TRANSITIONS;
 use reader::read_rows;
 use regions::MOVES;
 use regions::NOT_ON;
-use regions::check_regions;
 use rows::Counted;
 use rows::Counts;
 use rows::NO_STATE;
@@ -24,28 +20,7 @@ use rows::Verdict;
 use transition_system::EXCITATION_WORDS;
 use transition_system::check_transition_system;
 
-// Refusals 4 to 10 of rows, in the fixed order. Passed, the rows have the moves and the excitation sets, for 11 and 12 and what comes after.
-fn check_as_far_as_10<'a>(
-    c: Counts,
-    source: &'a [u8],
-    event: &'a [u8],
-    target: &'a [u8],
-    duplicate: &[usize],
-    place: &[u8],
-    pre: &mut [u8],
-    post: &mut [u8],
-    excited: &mut [u64],
-) -> Verdict
-    requires { ⌜ Bounded (rowsOf c (now source) (now event) (now target) (now duplicate) (now place)) ⌝ }
-    requires { ⌜ CheckedSizes (now source) (now event) (now target) (now duplicate) (now place) × Fresh (now pre) (now post) (now excited) ⌝ }
-    ensures { λ r. ⌜ ChecksRows c (now (source .entry)) (now (event .entry)) (now (target .entry)) (now (duplicate .entry)) (now (place .entry)) (now (pre .exit)) (now (post .exit)) (now (excited .exit)) r ⌝ }
-{
-    let system = check_transition_system(c, source, event, target, excited);
-    if let Verdict::Refused(why) = system {
-        return Verdict::Refused(why);
-    }
-    check_regions(c, source, event, target, duplicate, place, pre, post)
-}
+mod in_turn; // refusals 4 to 10 of rows
 
 // The text's refusal as far as 7. Passed, the rows have what it holds.
 pub fn read_as_far_as_7(

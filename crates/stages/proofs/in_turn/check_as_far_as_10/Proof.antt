@@ -1,4 +1,4 @@
--- `stages::check_as_far_as_10` meets its contract: the first of two verdicts that refuses is the answer. The laws are in `Order`.
+-- `stages::in_turn::check_as_far_as_10` meets its contract: the first of two verdicts that refuses is the answer. The laws are in `Order`.
 use mathlib.Core.Path.{_≡_, sym, _∙_}
 use mathlib.Core.Option.{none}
 use native.Mathlib.Omega.{arith}
@@ -9,8 +9,8 @@ use Rattle.rows.specs.Told.{systemOf}
 use Rattle.transition_system.specs.Sets.{systemRows}
 use Rattle.rows.proofs.Verdicts.{lets-pass}
 use Rattle.stages.proofs.Order.{system-bounded, rows-used, rows-by-system, rows-by-machines}
-use Rattle.stages.proofs.check_as_far_as_10.Statement.{statement}
-use Rattle.stages.proofs.check_as_far_as_10.Tie as tie
+use Rattle.stages.proofs.in_turn.check_as_far_as_10.Statement.{statement}
+use Rattle.stages.proofs.in_turn.check_as_far_as_10.Tie as tie
 
 -- from the place behind 7 back to its check, and to the call
 abbrev checked : tie.After-enum-told → tie.After-check-transition-system
