@@ -23,8 +23,8 @@ use writers::write_bytes;
 // One byte more than a text may have is read, so that a longer one is refused.
 const TEXT_ROOM: usize = MAX_TEXT + 1;
 
-// Linux by default hands over no more than 2 MB of words.
-const MANY_WORDS: usize = 2097152;
+// Of the 2 MB that Linux by default hands over, pointers take eight bytes a word: half of it holds any list of words of seven letters.
+const MANY_WORDS: usize = 1048576;
 
 // The words in a row, so many bytes of it.
 enum Gathered {
@@ -109,7 +109,7 @@ fn respond(words: &mut [u8]) {
 }
 
 fn many_words_row() -> [u8; MANY_WORDS]
-    ensures { λ r. ⌜ 2097152 ≡ length r ⌝ }
+    ensures { λ r. ⌜ 1048576 ≡ length r ⌝ }
 {
     [0u8; MANY_WORDS]
 }
