@@ -51,7 +51,14 @@ fn long_lists(dice: &mut Dice) -> Vec<Task> {
         let calls = lists.map(|list| run(&list)).collect();
         tasks.push(Task::new("long list", subject.text, calls));
     }
+    tasks.push(long_words());
     tasks
+}
+
+/// Lists of names whose bytes come close to what the program's small row of words holds, and one that goes far past it.
+fn long_words() -> Task {
+    let list = |n: usize| run(&["ready", "brake", "home"].into_iter().cycle().take(n).collect::<Vec<_>>());
+    Task::new("long words", Y, (718..=726).chain([140_000]).map(list).collect())
 }
 
 /// Systems with as much of something as may be, with lists that go far.

@@ -43,6 +43,7 @@ fn wrong_words() -> Vec<Vec<OsString>> {
         lists.push(vec![OsString::from("run"), word.into(), OsString::from("1")]);
     }
     lists.extend(HUGE.map(|figure| parted(&format!("explain {figure}"))));
+    lists.extend([4095, 4096, 4097].map(|n| parted(&format!("run {}", "x".repeat(n)))));
     lists
 }
 

@@ -57,7 +57,7 @@ unfoldable pub openRefusal : (ℕ → Option ℕ) → ℕ → Option Refusal
 openRefusal lowestOpen zero = none
 openRefusal lowestOpen (suc n) = orElse (openRefusal lowestOpen n) (Option·map (λ s. refuse 12 n s) (lowestOpen n))
 
--- the rows tell the moves of the machines and the excitation sets, and their places in some form
+-- the rows tell the moves of the machines and the excitation sets, and their places in one of the two forms below
 pub record MachinesHeld (ts : TransitionSystem) (ms : Decomposition) (pre post excited : List ℕ) (Places : Type 0) : Type 0 where
   pub states : ts .states ≤ 256
   pub events : ts .events ≤ 64
@@ -67,7 +67,7 @@ pub record MachinesHeld (ts : TransitionSystem) (ms : Decomposition) (pre post e
   pub excitations : Excitations (ts .transitions) excited
 
 -- the place of each state, in a row
-pub record InPlaces (ts : TransitionSystem) (ms : Decomposition) (place : List ℕ) : Type 0 where
+pub record InRow (ts : TransitionSystem) (ms : Decomposition) (place : List ℕ) : Type 0 where
   pub each : (k i : ℕ) (m : Machine) → At ms k m → i < ts .states → entry place (k * 256 + i) ≡ placeOf m i
 
 -- the states of each place, as sets
@@ -76,7 +76,7 @@ pub record InSets (ts : TransitionSystem) (ms : Decomposition) (sets : List ℕ)
 
 -- all that 11 and 12 ask for
 abbrev pub CoverTold : TransitionSystem → Decomposition → List ℕ → List ℕ → List ℕ → List ℕ → Type 0
-CoverTold ts ms pre post place excited = MachinesHeld ts ms pre post excited (InPlaces ts ms place)
+CoverTold ts ms pre post place excited = MachinesHeld ts ms pre post excited (InRow ts ms place)
 
 -- the same with the places as sets
 abbrev pub SetsTold : TransitionSystem → Decomposition → List ℕ → List ℕ → List ℕ → List ℕ → Type 0

@@ -13,10 +13,10 @@ use Rattle.model.proofs.Positions.{at-getD, getD-mem}
 use Rattle.lexer.specs.Words.{high, low}
 use Rattle.lexer.proofs.Telling.{EachByte, told, name-bytes}
 use Rattle.rows.proofs.Rows.{row-at}
-use Rattle.quick_step_line.specs.Quick.{NameRows, Same}
+use Rattle.quick_step_line.specs.Quick.{PackedNames, Same}
 use Rattle.quick_step_line.proofs.Standing.{both}
 
-module _ {es : List Name} {count : ℕ} {lens highs lows : List ℕ} (r : NameRows es count lens highs lows) (k : ℕ) (b : k < count) where
+module _ {es : List Name} {count : ℕ} {lens highs lows : List ℕ} (r : PackedNames es count lens highs lows) (k : ℕ) (b : k < count) where
   -- the rows tell the name k
   pub entry : Same lens highs lows (length (getD es k [])) (high (getD es k [])) (low (getD es k [])) k
   entry =

@@ -14,7 +14,7 @@ use Rattle.model.specs.Form.{step, written, stepLine}
 use Rattle.model.proofs.Lines.{step-complete}
 use Rattle.model.proofs.Words.{Spans, then, spans-part}
 use Rattle.quick_step_line.specs.declared.figures.Figure.{Figure}
-use Rattle.quick_step_line.specs.Quick.{NameRows, ReadsStep, FigureStands, GuessedFigure, Packs, NameSize, Same, Framed}
+use Rattle.quick_step_line.specs.Quick.{PackedNames, ReadsStep, FigureStands, GuessedFigure, Packs, NameSize, Same, Framed}
 use Rattle.quick_step_line.proofs.Standing.{both}
 use Rattle.quick_step_line.proofs.HeldNames.{entry, entry-name, entry-told}
 
@@ -56,7 +56,7 @@ module _ (s lens highs lows : List ℕ) (at n count k size end h l : ℕ) (a b :
   to = end - 2 - b .size
 
   line : Framed s at from to end → a .found ≡ true → b .found ≡ true → k < count → Same lens highs lows size h l k
-      → (es : List Name) → NameRows es count lens highs lows → stepLine s at ≡ got (step (a .value) (getD es k []) (b .value)) (end + 1)
+      → (es : List Name) → PackedNames es count lens highs lows → stepLine s at ≡ got (step (a .value) (getD es k []) (b .value)) (end + 1)
   line p ta tb c m es r =
       let e = getD es k [] in
       let o : IsName e = entry-name r k c in

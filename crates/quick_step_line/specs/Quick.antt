@@ -15,7 +15,7 @@ use Rattle.quick_step_line.specs.declared.QuickStep.{QuickStep}
 use Rattle.quick_step_line.specs.declared.QuickStep.the-variants.{Unknown, Found}
 
 -- the rows of an events line hold these names
-pub record NameRows (es : List Name) (count : ℕ) (lens highs lows : List ℕ) : Type 0 where
+pub record PackedNames (es : List Name) (count : ℕ) (lens highs lows : List ℕ) : Type 0 where
   pub counted : count ≡ length es
   pub most : length es ≤ 64
   pub names : (e : Name) → List·Memᴰ e es → IsName e
@@ -28,7 +28,7 @@ pub record ReadsStep (s : List ℕ) (at n count : ℕ) (lens highs lows : List �
   pub source : a < n
   pub event : k < count
   pub target : b < n
-  pub line : (es : List Name) → NameRows es count lens highs lows → stepLine s at ≡ got (step a (getD es k []) b) next
+  pub line : (es : List Name) → PackedNames es count lens highs lows → stepLine s at ≡ got (step a (getD es k []) b) next
 
 -- an unknown line may be anything
 unfoldable pub ReadsQuickly : List ℕ → ℕ → ℕ → ℕ → List ℕ → List ℕ → List ℕ → QuickStep → Type 0

@@ -15,7 +15,7 @@ use Rattle.model.proofs.ListLaws.{map-map}
 use Rattle.model.proofs.Values.{Named, lines, numbered, input, value-of-lines}
 use Rattle.rows.specs.Rows.{row, tabulate, placeRow, orNoState}
 use Rattle.lines.specs.Lines.{spots, namesFrom, duplicateMark}
-use Rattle.quick_step_line.specs.Quick.{NameRows}
+use Rattle.quick_step_line.specs.Quick.{PackedNames}
 use Rattle.rows.specs.declared.Verdict.{Verdict}
 use Rattle.rows.specs.declared.Verdict.the-variants.{Passed}
 use Rattle.rows.specs.declared.Counts.{Counts}
@@ -112,7 +112,7 @@ rows-refused e v k = record { verdict = rw e v; rows = λ x w. apart e w; none =
 
 -- its answer where all lines are read into rows in which nothing was stored
 module _ {c : Checked Input} {n : ℕ} {es : List Name} {count k j : ℕ} {ats lens highs lows : List ℕ} {before steps : TransitionRows} {unread machines : MachineRows} where
-  pub rows-passed : (ts : List Named) (ms : List Machine) → NameRows es count lens highs lows → ats ≡ row 64 0 (spots (namesFrom (length (written (states n)))) es)
+  pub rows-passed : (ts : List Named) (ms : List Machine) → PackedNames es count lens highs lows → ats ≡ row 64 0 (spots (namesFrom (length (written (states n)))) es)
       → before ≡ noSteps → unread ≡ noMachines → c ≡ passed (valueOf (lines n es ts ms)) → k ≡ length ts → steps ≡ withSteps es before ts → j ≡ length ms
       → machines ≡ withMachines n unread ms → AnswersRows c Passed (counts n count k j) (joined (counts n count k j) ats lens steps machines)
   unfolding verdictRefusal

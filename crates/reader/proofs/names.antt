@@ -1,2 +1,2 @@
 -- The table of names: looking one up, and that none is there twice.
-pub mod NameRows
+pub mod PackedNames

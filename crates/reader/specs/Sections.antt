@@ -17,7 +17,7 @@ use Rattle.model.proofs.Values.{Named, lines}
 use Rattle.lexer.specs.Words as Words
 use Rattle.rows.specs.Rows.{row, placeRow}
 use Rattle.lines.specs.Lines.{spots, duplicateMark, EventRows, eventRows, namesFrom}
-use Rattle.quick_step_line.specs.Quick.{NameRows}
+use Rattle.quick_step_line.specs.Quick.{PackedNames}
 use Rattle.rows.specs.declared.Counts.{Counts}
 use Rattle.rows.specs.declared.Tables.{Tables}
 use Rattle.rows.specs.declared.Counted.{Counted}
@@ -34,12 +34,12 @@ use Rattle.reader.specs.Lent.{AnswersRows}
 -- what looking a name up answers
 pub record Finds (count : ℕ) (lens highs lows : List ℕ) (n h l r : ℕ) : Type 0 where
   pub most : r ≤ count
-  pub number : (es : List Name) → NameRows es count lens highs lows → (e : Name) → IsName e → n ≡ length e → h ≡ Words.high e → l ≡ Words.low e
+  pub number : (es : List Name) → PackedNames es count lens highs lows → (e : Name) → IsName e → n ≡ length e → h ≡ Words.high e → l ≡ Words.low e
       → r ≡ eventNumber es e
 
 -- the rows hold these names, and none stands twice
 pub record DistinctRows (es : List Name) (count : ℕ) (lens highs lows : List ℕ) : Type 0 where
-  pub rows : NameRows es count lens highs lows
+  pub rows : PackedNames es count lens highs lows
   pub once : distinct es ≡ true
 
 -- the rows hold names, none of them twice

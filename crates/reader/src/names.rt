@@ -4,7 +4,7 @@ ghost use mathlib.Core.List.{List};
 ghost use Prim.Native.Nat.{_<_, _≤_};
 ghost use Rattle.model.specs.Bytes.{Name};
 ghost use Rattle.model.specs.Text as Text;
-ghost use Rattle.quick_step_line.specs.Quick.{NameRows};
+ghost use Rattle.quick_step_line.specs.Quick.{PackedNames};
 ghost use Rattle.reader.specs.Sections.{Finds};
 use model::MAX_EVENTS;
 
@@ -43,7 +43,7 @@ pub fn distinct_names<'a>(
     count: usize,
 ) -> bool
     requires { ⌜ count ≤ 64 ⌝ }
-    ensures { λ r. ⌜ ((es : List Name) → NameRows es count (now («len» .entry)) (now («high» .entry)) (now («low» .entry)) → r ≡ Text.distinct es) ⌝ }
+    ensures { λ r. ⌜ ((es : List Name) → PackedNames es count (now («len» .entry)) (now («high» .entry)) (now («low» .entry)) → r ≡ Text.distinct es) ⌝ }
 {
     let mut k = 0;
     while k < count {

@@ -12,6 +12,7 @@ use command_line::Service;
 use command_line::second_word;
 use command_line::service_asked;
 use command_line::size_said;
+use help::is_refusal;
 use help::put_explanation;
 use help::put_help;
 use help::put_usage;
@@ -93,7 +94,9 @@ fn explain(words: &[u8]) {
         put_usage();
         return;
     };
-    if !put_explanation(refusal) {
+    if is_refusal(refusal) {
+        put_explanation(refusal);
+    } else {
         put_usage();
     }
 }

@@ -194,7 +194,7 @@ fn tables(
     }
 }
 
-// The same as one value, for a caller to whom a copy of the rows is cheap.
+// A text checked as far as 7 as one value, for a caller to whom a copy of the rows is cheap.
 pub fn check_plan(text: &[u8]) -> CheckedPlan
     ensures { λ r. ⌜ ReadAsFarAs7 (now (text .entry)) (r .verdict) (r .tables) ⌝ }
 {
@@ -232,6 +232,7 @@ pub fn check_plan(text: &[u8]) -> CheckedPlan
     CheckedPlan { verdict, tables }
 }
 
+// The same as far as 12.
 pub fn check_split(text: &[u8]) -> CheckedSplit
     ensures { λ r. ⌜ ReadAsFarAs12 (now (text .entry)) (r .verdict) (r .tables) (r .pre) (r .post) (r .excited) ⌝ }
 {

@@ -26,7 +26,7 @@ use Rattle.reader.specs.declared.Section.{Section}
 use Rattle.reader.specs.declared.Section.the-variants.{Refused, Read}
 use Rattle.reader.specs.Sections.{Finds, DistinctRows, Declares, Rest, begun, TransitionRows, transitionRows, withSteps, StepFound, StepRefused, StepRead, countOf, StepsFound, StepsRead, ReadsSteps}
 use Rattle.reader.proofs.Rest.{and-not}
-use Rattle.reader.proofs.names.NameRows.{own-number}
+use Rattle.reader.proofs.names.PackedNames.{own-number}
 use Rattle.reader.proofs.Stores.{store}
 use Rattle.reader.proofs.Phases.{step-many, step-source, step-target, step-event, step-more}
 

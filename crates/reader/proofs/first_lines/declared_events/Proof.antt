@@ -9,9 +9,9 @@ use Rattle.model.specs.Form.{eventsLine}
 use Rattle.model.specs.Text.{distinct}
 use Rattle.lines.specs.Lines.{EventRows, eventRows}
 use Rattle.lines.proofs.Found.{GotEvents, events-got, events-missing}
-use Rattle.quick_step_line.specs.Quick.{NameRows}
+use Rattle.quick_step_line.specs.Quick.{PackedNames}
 use Rattle.reader.specs.Sections.{EventsRead, ReadsEvents}
-use Rattle.reader.proofs.names.NameRows.{fresh-full, events-rows, events-placed}
+use Rattle.reader.proofs.names.PackedNames.{fresh-full, events-rows, events-placed}
 use Rattle.reader.proofs.Phases.{events-fail, events-many, events-twice, events-more}
 use Rattle.reader.proofs.first_lines.declared_events.Statement.{statement}
 use Rattle.reader.proofs.first_lines.declared_events.Tie as tie
@@ -36,7 +36,7 @@ abbrev limited : tie.After-distinct-names → tie.Else2
 limited c = c .before .before .before .before
 
 held : (c : tie.Else2)
-    → NameRows (listed (c .before) .names) (c .before .before .read-events .result .count) (after (c .before .before) .lengths) (after (c .before .before) .highs) (after (c .before .before) .lows)
+    → PackedNames (listed (c .before) .names) (c .before .before .read-events .result .count) (after (c .before .before) .lengths) (after (c .before .before) .highs) (after (c .before .before) .lows)
 held c = events-rows (listed (c .before)) (start (c .before .before) .pre) (c .if2 .left)
 
 once : (c : tie.After-distinct-names) → c .distinct-names .result ≡ distinct (listed (limited c .before) .names)

@@ -1,7 +1,7 @@
--- `reader::distinct_names` meets its contract: the names passed are the first of their own. The laws are in `NameRows`.
+-- `reader::distinct_names` meets its contract: the names passed are the first of their own. The laws are in `PackedNames`.
 use Prim.Native.Nat.{_-_}
 use native.Mathlib.Omega.{arith}
-use Rattle.reader.proofs.names.NameRows.{Firsts, firsts-start, firsts-more, firsts-stop, firsts-end}
+use Rattle.reader.proofs.names.PackedNames.{Firsts, firsts-start, firsts-more, firsts-stop, firsts-end}
 use Rattle.reader.proofs.names.distinct_names.Statement.{statement}
 use Rattle.reader.proofs.names.distinct_names.Tie as tie
 

@@ -1,10 +1,10 @@
--- `reader::find_event` meets its contract: the entries passed are others. The laws are in `NameRows`.
+-- `reader::find_event` meets its contract: the entries passed are others. The laws are in `PackedNames`.
 use Prim.Native.Nat.{_-_}
 use native.Mathlib.Omega.{arith}
 use mathlib.Core.Logic.{⊎-elim}
 use Rattle.quick_step_line.specs.Quick.{Same}
 use Rattle.rows.proofs.Searches.{Upto, upto-start, upto-more}
-use Rattle.reader.proofs.names.NameRows.{finds}
+use Rattle.reader.proofs.names.PackedNames.{finds}
 use Rattle.reader.proofs.names.find_event.Statement.{statement}
 use Rattle.reader.proofs.names.find_event.Tie as tie
 

@@ -23,13 +23,13 @@ use Rattle.lines.specs.declared.EventsAt.{EventsAt}
 use Rattle.rows.specs.Rows.{row}
 use Rattle.lines.specs.Lines.{spots, namesFrom, EventRows, FullRows, withNames}
 use Rattle.lines.proofs.Found.{GotEvents}
-use Rattle.quick_step_line.specs.Quick.{NameRows, Same}
+use Rattle.quick_step_line.specs.Quick.{PackedNames, Same}
 use Rattle.quick_step_line.proofs.HeldNames.{entry, entry-name, entry-told}
 use Rattle.reader.specs.Sections.{Finds, noNames}
 use Rattle.rows.proofs.Searches.{Upto, index-is}
 
 -- the entry k has what is sought if and only if it is this name
-module _ {es : List Name} {count : ℕ} {lens highs lows : List ℕ} (r : NameRows es count lens highs lows) (k : ℕ) (b : k < count)
+module _ {es : List Name} {count : ℕ} {lens highs lows : List ℕ} (r : PackedNames es count lens highs lows) (k : ℕ) (b : k < count)
     {e : Name} {n h l : ℕ} (w : IsName e) (p : n ≡ length e) (q : h ≡ high e) (o : l ≡ low e) where
   same-name : Same lens highs lows n h l k → T (sameName e (getD es k []))
   same-name s = subst (λ (x : Name). T (sameName e x)) (entry-told r k b (name-bytes e w) p q o s) (same-refl e)
@@ -61,14 +61,14 @@ finds {k = k} s t =
 abbrev FindsEntry : ℕ → List ℕ → List ℕ → List ℕ → ℕ → ℕ → Type 0
 FindsEntry count lens highs lows k x = Finds count lens highs lows (getD lens k 0) (getD highs k 0) (getD lows k 0) x
 
-finds-entry : {es : List Name} {count : ℕ} {lens highs lows : List ℕ} {k x : ℕ} → NameRows es count lens highs lows → k < count
+finds-entry : {es : List Name} {count : ℕ} {lens highs lows : List ℕ} {k x : ℕ} → PackedNames es count lens highs lows → k < count
     → FindsEntry count lens highs lows k x → x ≡ eventNumber es (getD es k [])
 finds-entry {es} {k = k} r b f = let t = entry r k b in f .number es r (getD es k []) (entry-name r k b) (t .long) (t .high) (t .low)
 
 -- the names before k are the first of their own
 pub record Firsts (count : ℕ) (lens highs lows : List ℕ) (k : ℕ) : Type 0 where
   pub most : k ≤ count
-  pub own : (es : List Name) → NameRows es count lens highs lows → (j : ℕ) → j < k → eventNumber es (getD es j []) ≡ j
+  pub own : (es : List Name) → PackedNames es count lens highs lows → (j : ℕ) → j < k → eventNumber es (getD es j []) ≡ j
 
 -- of distinct names each is the first of its own
 pub own-number : (es : List Name) (k : ℕ) → k < length es → T (distinct es) → eventNumber es (getD es k []) ≡ k
@@ -112,10 +112,10 @@ module _ {count : ℕ} {lens highs lows : List ℕ} {k : ℕ} (f : Firsts count 
           own = λ es r. below-more (λ j. eventNumber es (getD es j []) ≡ j) k (f .own es r) (sym (finds-entry r b g) ∙ e);
         }
 
-    pub firsts-stop : (x ≡ k → ⊥) → (es : List Name) → NameRows es count lens highs lows → false ≡ distinct es
+    pub firsts-stop : (x ≡ k → ⊥) → (es : List Name) → PackedNames es count lens highs lows → false ≡ distinct es
     firsts-stop e es r = repeated es k (omega (arith, r .counted)) (λ u. e (finds-entry r b g ∙ u))
 
-  pub firsts-end : count ≤ k → (es : List Name) → NameRows es count lens highs lows → true ≡ distinct es
+  pub firsts-end : count ≤ k → (es : List Name) → PackedNames es count lens highs lows → true ≡ distinct es
   firsts-end b es r = alone es (λ j i. f .own es r j (omega (arith, r .counted)))
 
 -- rows in which nothing is stored yet
@@ -133,7 +133,7 @@ module _ {o : Parsed Line} {at : ℕ} {r : EventsAt} {before after : EventRows} 
   stored : after ≡ withNames (namesFrom at) noNames (g .names)
   stored = rw fresh at (g .rows)
 
-  pub events-rows : r .count ≤ 64 → NameRows (g .names) (r .count) (after .lengths) (after .highs) (after .lows)
+  pub events-rows : r .count ≤ 64 → PackedNames (g .names) (r .count) (after .lengths) (after .highs) (after .lows)
   unfolding withNames row
   events-rows few =
       record {
