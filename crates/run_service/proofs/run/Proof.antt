@@ -1,7 +1,10 @@
 -- `run_service::run` meets its contract: both answers are laws of `Running` at what the calls have said.
 use native.Mathlib.Omega.{arith}
 use mathlib.Core.Path.{sym}
+use denote.Ref.{now}
 use borrow.Author.Needs.{needs}
+use Rattle.rows.specs.Tables.{tablesIn}
+use Rattle.stages.specs.Stages.{Judged}
 use Rattle.stages.proofs.Stages.{fresh, fresh-rows, refused-text, past-text}
 use Rattle.run_service.proofs.Running.{run-refused, runnable, ran}
 use Rattle.run_service.proofs.run.Statement.{statement}
@@ -10,6 +13,15 @@ use Rattle.run_service.proofs.run.Tie as tie
 -- from the place where the text has passed back to where it was read
 abbrev read : tie.After-enum-told → tie.After-read-as-far-as-12
 read c = c .before .before .before .before .before
+
+-- the text has passed
+judged : (c : tie.After-enum-told)
+    → let l = read c .read-as-far-as-12 .last .1 in
+    let m = l .1 .1 .1 .1 .1 .1 .1 .1 in
+    Judged (now (read c .before .before .before .before .before .before .before .before .before .before .before .before .before .before .args .text))
+    (tablesIn (read c .read-as-far-as-12 .result .counts) (l .0) (l .1 .0) (l .1 .1 .0) (l .1 .1 .1 .0) (l .1 .1 .1 .1 .0) (l .1 .1 .1 .1 .1 .0) (l .1 .1 .1 .1 .1 .1 .0) (l .1 .1 .1 .1 .1 .1 .1 .0))
+    (m .0) (m .1 .0) (m .1 .1 .0)
+judged c = past-text (read c .read-as-far-as-12 .ensures) (c .enum-told .given .1)
 
 slice-aggregate-read-as-far-as-12 : tie.Need-slice-aggregate-read-as-far-as-12
 slice-aggregate-read-as-far-as-12 c = search needs
@@ -36,12 +48,12 @@ enum-told : tie.Need-enum-told
 enum-told c = search needs
 
 slice-aggregate-places-of : tie.Need-slice-aggregate-places-of
-slice-aggregate-places-of c = sym (past-text (read (c .before .before) .read-as-far-as-12 .ensures) (c .before .before .enum-told .given .1) .past .held .sized .checked .crossed .places)
+slice-aggregate-places-of c = sym (judged (c .before .before) .past .held .sized .checked .crossed .places)
 
 places-of-requires : tie.Need-places-of-requires
 places-of-requires c κs =
     let past = c .before .before in
-    let j = past-text (read past .read-as-far-as-12 .ensures) (past .enum-told .given .1) in
+    let j = judged past in
     let b = j .past .held .bounds in
     (j .past .held .sized .checked .crossed .places, omega (arith, b .initial, b .states), b .machines)
 
@@ -54,13 +66,13 @@ slice-aggregate-run-events-2 c = search needs
 run-events-requires : tie.Need-run-events-requires
 run-events-requires c κs =
     let past = c .before .before .before .before .before in
-    let j = past-text (read past .read-as-far-as-12 .ensures) (past .enum-told .given .1) in
+    let j = judged past in
     runnable j (c .before .before .places-of .ensures)
 
 returns-2 : tie.Need-returns-2
 returns-2 c =
     let past = c .before .before .before .before .before .before in
-    let j = past-text (read past .read-as-far-as-12 .ensures) (past .enum-told .given .1) in
+    let j = judged past in
     ran j (c .before .before .before .places-of .ensures) _ (c .run-events .ensures)
 
 pub run-spec : {M : Type 1} → statement M

@@ -1,6 +1,9 @@
 -- `thin_service::thin` meets its contract: the answers are laws of `Thinning` at what the calls have said.
 use mathlib.Core.Path.{sym}
+use denote.Ref.{now}
 use borrow.Author.Needs.{needs}
+use Rattle.rows.specs.Tables.{tablesIn}
+use Rattle.stages.specs.Stages.{Past10}
 use Rattle.stages.proofs.Stages.{fresh, fresh-rows, refused-text-10, past-text-10, counts-bounded}
 use Rattle.thin_service.proofs.Thinning.{thin-refused, refused-by-cover, kept}
 use Rattle.thin_service.proofs.thin.Statement.{statement}
@@ -9,6 +12,15 @@ use Rattle.thin_service.proofs.thin.Tie as tie
 -- from the place where the text is past 10 back to where it was read, and from the answer of thinning to that place
 abbrev read : tie.After-enum-told → tie.After-read-as-far-as-10
 read c = c .before .before .before .before .before
+
+-- the text is past 10
+ten : (c : tie.After-enum-told)
+    → let l = read c .read-as-far-as-10 .last .1 in
+    let m = l .1 .1 .1 .1 .1 .1 .1 .1 in
+    Past10 (now (read c .before .before .before .before .before .before .before .before .before .before .before .before .before .args .text))
+    (tablesIn (read c .read-as-far-as-10 .result .counts) (l .0) (l .1 .0) (l .1 .1 .0) (l .1 .1 .1 .0) (l .1 .1 .1 .1 .0) (l .1 .1 .1 .1 .1 .0) (l .1 .1 .1 .1 .1 .1 .0) (l .1 .1 .1 .1 .1 .1 .1 .0))
+    (m .0) (m .1 .0) (m .1 .1 .0)
+ten c = past-text-10 (read c .read-as-far-as-10 .ensures) (c .enum-told .given .1)
 
 abbrev past : tie.After-remove-redundant → tie.After-enum-told
 past c = c .before .before .before .before .before
@@ -37,7 +49,7 @@ enum-told c = search needs
 slice-aggregate-remove-redundant : tie.Need-slice-aggregate-remove-redundant
 slice-aggregate-remove-redundant c =
     let at = c .before .before in
-    sym (past-text-10 (read at .read-as-far-as-10 .ensures) (at .enum-told .given .1) .held .sized .checked .crossed .places)
+    sym (ten at .held .sized .checked .crossed .places)
 
 slice-aggregate-remove-redundant-2 : tie.Need-slice-aggregate-remove-redundant-2
 slice-aggregate-remove-redundant-2 c = search needs
@@ -48,7 +60,7 @@ slice-aggregate-remove-redundant-3 c = search needs
 remove-redundant-requires : tie.Need-remove-redundant-requires
 remove-redundant-requires c κs =
     let at = c .before .before .before .before in
-    let k = past-text-10 (read at .read-as-far-as-10 .ensures) (at .enum-told .given .1) in
+    let k = ten at in
     (counts-bounded k, k .held .sized .checked .crossed .places, k .cover .excitations .size, k .cover .moves .rows .pre-size)
 
 enum-known-fault : tie.Need-enum-known-fault
@@ -61,13 +73,13 @@ returns-2 : tie.Need-returns-2
 returns-2 c =
     let thinned = c .before .before .before in
     let at = past thinned in
-    refused-by-cover (past-text-10 (read at .read-as-far-as-10 .ensures) (at .enum-told .given .1)) (thinned .remove-redundant .ensures) (c .before .fault .given .1)
+    refused-by-cover (ten at) (thinned .remove-redundant .ensures) (c .before .fault .given .1)
 
 returns-3 : tie.Need-returns-3
 returns-3 c =
     let thinned = c .before .before .before in
     let at = past thinned in
-    kept (past-text-10 (read at .read-as-far-as-10 .ensures) (at .enum-told .given .1)) (thinned .remove-redundant .ensures) (c .before .kept .given .1)
+    kept (ten at) (thinned .remove-redundant .ensures) (c .before .kept .given .1)
 
 pub thin-spec : {M : Type 1} → statement M
 thin-spec =
