@@ -1,4 +1,7 @@
 // What the program says of itself: usage, help, and what each refusal means.
+ghost use mathlib.Core.Path.{_≡_};
+ghost use mathlib.Core.Bool.{_&&_};
+ghost use lib.Dec.{leb};
 use libc::STDERR_FILENO;
 use libc::STDOUT_FILENO;
 
@@ -38,13 +41,22 @@ pub fn put_help() {
     );
 }
 
-fn put(lines: &[u8]) -> bool {
+fn put(lines: &[u8]) {
     io::write_all(STDOUT_FILENO, lines);
-    true
+}
+
+// Document 01 has refusals 1 to 14.
+pub fn is_refusal(n: usize) -> bool
+    ensures { λ r. ⌜ r ≡ (leb 1 n && leb n 14) ⌝ }
+{
+    if 1 <= n {
+        return n <= 14;
+    }
+    false
 }
 
 // Of the text's form and bounds; of the plan; of the split; of the call.
-fn explain_text(refusal: usize) -> bool {
+fn explain_text(refusal: usize) {
     match refusal {
         1 => put(
             b"misformed: line A has not the form of a line that may stand there, or the text has no line A though it must.\n\
@@ -58,11 +70,11 @@ fn explain_text(refusal: usize) -> bool {
             b"stranger: line A names a state not below the count, an event not on line 2, or one event twice.\n\
               Declare the event once on line 2, or correct the state or the event on line A.\n",
         ),
-        _ => false,
+        _ => {}
     }
 }
 
-fn explain_plan(refusal: usize) -> bool {
+fn explain_plan(refusal: usize) {
     match refusal {
         4 => put(
             b"standstill: the step on line A ends in the state where it began.\n\
@@ -80,11 +92,11 @@ fn explain_plan(refusal: usize) -> bool {
             b"unreached: no steps lead from state 0 to state A.\n\
               Add the step that leads there, or take the state out and number the others anew.\n",
         ),
-        _ => false,
+        _ => {}
     }
 }
 
-fn explain_split(refusal: usize) -> bool {
+fn explain_split(refusal: usize) {
     match refusal {
         8 => put(
             b"doubled: machine A lists state B twice.\n\
@@ -106,11 +118,11 @@ fn explain_split(refusal: usize) -> bool {
             b"open: in state B the machines are ready for event A, and the plan is not.\n\
               Add a machine, or divide a place of one, so that state B is outside a place from which event A leaves.\n",
         ),
-        _ => false,
+        _ => {}
     }
 }
 
-fn explain_call(refusal: usize) -> bool {
+fn explain_call(refusal: usize) {
     match refusal {
         13 => put(
             b"short sheet: what was lent is too short for the answer, which needs size A.\n\
@@ -120,14 +132,14 @@ fn explain_call(refusal: usize) -> bool {
             b"odd call: the event at position A of the list, counted from 0, is not declared.\n\
               Give the name of an event of line 2, or a number below the count of events.\n",
         ),
-        _ => false,
+        _ => {}
     }
 }
 
-// What the refusal means and what to do about it, a line each; false if there is no such refusal.
-pub fn put_explanation(refusal: usize) -> bool {
-    explain_text(refusal)
-        || explain_plan(refusal)
-        || explain_split(refusal)
-        || explain_call(refusal)
+// What the refusal means and what to do about it, a line each.
+pub fn put_explanation(refusal: usize) {
+    explain_text(refusal);
+    explain_plan(refusal);
+    explain_split(refusal);
+    explain_call(refusal);
 }

@@ -12,6 +12,7 @@ use command_line::Service;
 use command_line::second_word;
 use command_line::service_asked;
 use command_line::size_said;
+use help::is_refusal;
 use help::put_explanation;
 use help::put_help;
 use help::put_usage;
@@ -23,8 +24,8 @@ use writers::write_bytes;
 // One byte more than a text may have is read, so that a longer one is refused.
 const TEXT_ROOM: usize = MAX_TEXT + 1;
 
-// Of the 2 MB that Linux by default hands over, pointers take eight bytes a word: half of it holds any list of words of seven letters.
-const MANY_WORDS: usize = 1048576;
+// Linux by default hands over 2 MB of words, eight bytes of it for each word's place: so much holds any list of names.
+const MANY_WORDS: usize = 1441792;
 
 // The words in a row, so many bytes of it.
 enum Gathered {
@@ -93,7 +94,9 @@ fn explain(words: &[u8]) {
         put_usage();
         return;
     };
-    if !put_explanation(refusal) {
+    if is_refusal(refusal) {
+        put_explanation(refusal);
+    } else {
         put_usage();
     }
 }
@@ -109,7 +112,7 @@ fn respond(words: &mut [u8]) {
 }
 
 fn many_words_row() -> [u8; MANY_WORDS]
-    ensures { λ r. ⌜ 1048576 ≡ length r ⌝ }
+    ensures { λ r. ⌜ 1441792 ≡ length r ⌝ }
 {
     [0u8; MANY_WORDS]
 }
