@@ -5,7 +5,7 @@ ghost use mathlib.Core.List.{[], _∷_, _++_};
 ghost use lib.ListN.{length};
 ghost use Rattle.io.specs.Counts.{Counts};
 ghost use Rattle.writers.specs.Written.{Writes};
-ghost use Rattle.split.specs.Gathered.{Fits};
+ghost use Rattle.split.specs.Gathered.{Gathers};
 use answering::answer;
 use command_line::Said;
 use command_line::Service;
@@ -45,7 +45,7 @@ fn put_word(word: &[u8], row: &mut [u8], at: usize) -> usize
 
 // The words after the program's own name, which is word 0. One that is missing or has more than 4,096 bytes reads as an empty one.
 fn gather(words: usize, row: &mut [u8]) -> Gathered
-    ensures { λ r. ⌜ Fits r (now (row .exit)) ⌝ }
+    ensures { λ r. ⌜ Gathers words r (now (row .exit)) ⌝ }
 {
     let mut n = 0;
     let mut i = 1;
