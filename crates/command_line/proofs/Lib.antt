@@ -10,6 +10,8 @@ pub mod WholeNames
 pub mod Declaring
 -- what a word says
 pub mod Saying
+-- words put into a row are read from it
+pub mod Rows
 -- words in one row of bytes
 pub mod Cutting
 -- the events that they say, in the same row

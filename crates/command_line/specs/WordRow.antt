@@ -2,7 +2,7 @@
 use Prim.Native.Nat.{ℕ, _+_, _-_, _<_, _≤_}
 use mathlib.Core.Path.{_≡_}
 use mathlib.Core.Bool.{cond}
-use mathlib.Core.List.{List, [], _∷_}
+use mathlib.Core.List.{List, [], _∷_, _++_}
 use mathlib.Core.Option.{Option, none, some}
 use lib.Dec.{eqb}
 use lib.ListN.{length, take, drop}
@@ -17,6 +17,11 @@ begunBy b (w ∷ ws) = (b ∷ w) ∷ ws
 unfoldable pub wordsIn : List ℕ → List (List ℕ)
 wordsIn [] = []
 wordsIn (b ∷ s) = cond (eqb b 0) ([] ∷ wordsIn s) (begunBy b (wordsIn s))
+
+-- these words in a row
+abbrev pub rowOf : List (List ℕ) → List ℕ
+rowOf [] = []
+rowOf (w ∷ ws) = w ++ (0 ∷ rowOf ws)
 
 -- the word that begins at `at` ends before `end`, and the others begin after it
 pub record WordCut (s : List ℕ) (at end : ℕ) : Type 0 where

@@ -5,8 +5,6 @@ use mathlib.Core.Path.{_≡_, ap, sym}
 use mathlib.Core.List.{List}
 use lib.ListN.{length, replicate, length-take, length-replicate}
 use Rattle.printing.specs.Shown.{Shows}
-use Rattle.split.specs.declared.Gathered.the-variants.{Words, TooLong}
-use Rattle.split.specs.Gathered.{Fits}
 
 -- for any length: a long row is not to be computed
 pub cleared : (n a : ℕ) → n ≡ length (replicate n a)
@@ -15,10 +13,3 @@ cleared n a = sym (length-replicate n a)
 -- what is shown lies in the buffer
 pub shown-within : {word out : List ℕ} {n : ℕ} → Shows word n out → n ≤ length out
 shown-within {out = out} {n} w = omega (arith, w .size, ap length (w .shown), length-take n out)
-
--- the words that were gathered lie in their row
-pub too-long : {row : List ℕ} → Fits TooLong row
-too-long = record { within = λ n e. let z : _≡_ {A = ℕ} 0 1 = cc in absurd (omega arith) }
-
-pub gathered : {n : ℕ} {row : List ℕ} → n ≤ length row → Fits (Words n) row
-gathered {n} h = record { within = λ k e. let z : n ≡ k = cc in omega arith }

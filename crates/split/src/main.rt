@@ -5,7 +5,7 @@ ghost use mathlib.Core.List.{[], _∷_, _++_};
 ghost use lib.ListN.{length};
 ghost use Rattle.io.specs.Counts.{Counts};
 ghost use Rattle.writers.specs.Written.{Writes};
-ghost use Rattle.split.specs.Gathered.{Fits};
+ghost use Rattle.split.specs.Gathered.{Gathers};
 use answering::answer;
 use command_line::Said;
 use command_line::Service;
@@ -24,8 +24,8 @@ use writers::write_bytes;
 // One byte more than a text may have is read, so that a longer one is refused.
 const TEXT_ROOM: usize = MAX_TEXT + 1;
 
-// Of the 2 MB that Linux by default hands over, pointers take eight bytes a word: half of it holds any list of words of seven letters.
-const MANY_WORDS: usize = 1048576;
+// Linux by default hands over 2 MB of words, eight bytes of it for each word's place: so much holds any list of names.
+const MANY_WORDS: usize = 1441792;
 
 // The words in a row, so many bytes of it.
 enum Gathered {
@@ -45,7 +45,7 @@ fn put_word(word: &[u8], row: &mut [u8], at: usize) -> usize
 
 // The words after the program's own name, which is word 0. One that is missing or has more than 4,096 bytes reads as an empty one.
 fn gather(words: usize, row: &mut [u8]) -> Gathered
-    ensures { λ r. ⌜ Fits r (now (row .exit)) ⌝ }
+    ensures { λ r. ⌜ Gathers words r (now (row .exit)) ⌝ }
 {
     let mut n = 0;
     let mut i = 1;
@@ -112,7 +112,7 @@ fn respond(words: &mut [u8]) {
 }
 
 fn many_words_row() -> [u8; MANY_WORDS]
-    ensures { λ r. ⌜ 1048576 ≡ length r ⌝ }
+    ensures { λ r. ⌜ 1441792 ≡ length r ⌝ }
 {
     [0u8; MANY_WORDS]
 }

@@ -1,20 +1,25 @@
--- `split::gather` stays within its row.
-use Prim.Native.Nat.{_-_, _≤_}
-use mathlib.Core.Path.{_≡_}
+-- `split::gather` meets its contract: each turn puts one word behind the others. The laws are in `Gathering`.
+use Prim.Native.Nat.{ℕ, _-_}
+use mathlib.Core.Path.{_≡_, refl}
+use mathlib.Core.List.{List}
 use borrow.Author.Needs.{needs}
-use lib.ListN.{length}
-use Rattle.split.proofs.Lengths.{too-long, gathered}
+use lib.ListN.{length, take}
+use Rattle.split.proofs.Gathering.{Gathering, gathering-none, gathering-more, gathering-end, gathering-stop}
 use Rattle.split.proofs.gather.Statement.{statement}
 use Rattle.split.proofs.gather.Tie as tie
 
 abbrev Inv-loop : tie.InvT-loop
-Inv-loop words row₀ n₀ i₀ row n i = (length row ≡ length row₀) × (n ≤ length row)
+Inv-loop words row₀ n₀ i₀ row n i = (length row ≡ length row₀) × Gathering words row n i
 
 abbrev μ-loop : tie.MeasureT-loop
 μ-loop words row₀ n₀ i₀ row n i = words - i
 
+-- the word that was taken
+abbrev word : tie.After-arg Inv-loop μ-loop → List ℕ
+word c = take (c .arg .result) (c .arg .last .1 .0)
+
 loop-holds : tie.Need-loop-holds Inv-loop μ-loop
-loop-holds c = search needs
+loop-holds c = (refl, gathering-none)
 
 buffer-requires : tie.Need-buffer-requires Inv-loop μ-loop
 buffer-requires c κs = search needs
@@ -32,7 +37,9 @@ same-length : tie.Need-same-length Inv-loop μ-loop
 same-length c = search needs
 
 returns : tie.Need-returns Inv-loop μ-loop
-returns c = too-long
+returns c =
+    let got = c .before .before in
+    gathering-stop (got .before .before .before .before .loop .inv .1) (word got) (got .before .before .before .loop-test .taken) (search needs)
 
 array-share-prefix-word : tie.Need-array-share-prefix-word Inv-loop μ-loop
 array-share-prefix-word c = search needs
@@ -50,13 +57,18 @@ loop-less : tie.Need-loop-less Inv-loop μ-loop
 loop-less c = search needs
 
 loop-again : tie.Need-loop-again Inv-loop μ-loop
-loop-again c = search needs
+loop-again c =
+    let got = c .before .before .before .before .before .before .before in (
+      search needs,
+      gathering-more (got .before .before .before .before .loop .inv .1) (word got) (got .before .before .before .loop-test .taken) (search needs)
+          (c .before .before .put-word .ensures .0),
+    )
 
 same-length-2 : tie.Need-same-length-2 Inv-loop μ-loop
 same-length-2 c = search needs
 
 returns-2 : tie.Need-returns-2 Inv-loop μ-loop
-returns-2 c = gathered (c .before .loop .inv .1)
+returns-2 c = gathering-end (c .before .loop .inv .1) (c .loop-test .left)
 
 pub gather-spec : {M : Type 1} → statement M
 gather-spec =

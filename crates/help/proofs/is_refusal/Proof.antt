@@ -1,0 +1,13 @@
+-- `help::is_refusal` meets its contract: its two tests are the contract's.
+use borrow.Author.Tests.{le-leb, lt-leb}
+use Rattle.help.proofs.is_refusal.Statement.{statement}
+use Rattle.help.proofs.is_refusal.Tie as tie
+
+returns : tie.Need-returns
+returns c = rw (le-leb 1 (c .before .args .n) (c .if1 .taken))
+
+returns-2 : tie.Need-returns-2
+returns-2 c = rw (lt-leb 1 (c .before .args .n) (c .if1 .left))
+
+pub is-refusal-spec : {M : Type 1} → statement M
+is-refusal-spec = tie.close (tie.spec returns returns-2)
