@@ -1,13 +1,11 @@
 -- What is left to be printed, by what the words say.
-use Prim.Native.Nat.{ℕ, _-_, _<_}
-use native.Mathlib.Omega.{arith}
+use Prim.Native.Nat.{ℕ, _<_}
 use mathlib.Core.Path.{_≡_, refl, ap, sym, _∙_, subst}
 use mathlib.Core.List.{List, [], _∷_}
 use mathlib.Core.Option.{Option, none, some, Option·map}
-use lib.ListN.{length, take, drop, length-drop}
-use lib.Seq.{take-all}
+use lib.ListN.{length, take}
 use Rattle.model.specs.Services.{printed}
-use Rattle.model.specs.Printed.{printedCheck, printedThin}
+use Rattle.model.specs.Printed.{printedThin}
 use Rattle.printing.proofs.Checking.{whole-sheet}
 use Rattle.printing.specs.Shown.{Shows}
 use Rattle.command_line.specs.declared.Said.{Said}
@@ -81,10 +79,6 @@ answered ws {vs} s {asked} e q =
 -- the service that was asked for, by its case
 pub asked-as : {asked a : Service} (ws : List (List ℕ)) (s : List ℕ) → asked ≡ a → answerBy a ws s ≡ answerBy asked ws s
 asked-as ws s e = ap (λ (x : Service). answerBy x ws s) (sym e)
-
--- the words from a place on
-pub words-from : (row : List ℕ) (at : ℕ) {vs : List (List ℕ)} → wordsIn (drop at row) ≡ vs → wordsIn (take (length row - at) (drop at row)) ≡ vs
-words-from row at e = ap wordsIn (take-all (length row - at) (drop at row) (omega (arith, length-drop at row))) ∙ e
 
 -- words are a list of numbers, or none
 pub lists-none : {r : Said} {o : Option (List ℕ)} {row : List ℕ} → r ≡ Neither → Lists o r row → none ≡ o

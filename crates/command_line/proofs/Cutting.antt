@@ -9,7 +9,7 @@ use mathlib.Core.Option.{none, some}
 use borrow.Author.Tests.{eq-eqb, ne-eqb}
 use lib.Dec.{eqb}
 use lib.ListN.{length, getD, take, drop, length-drop, drop-of-length-le}
-use lib.Seq.{getD-drop, drop-drop}
+use lib.Seq.{getD-drop, drop-drop, take-all}
 use Rattle.model.proofs.Laws.{order}
 use Rattle.command_line.specs.declared.Service.{Service}
 use Rattle.command_line.specs.declared.Service.the-variants.{Check}
@@ -64,6 +64,10 @@ module _ {s : List ℕ} {at end : ℕ} (p : Passed s at end) where
             (omega arith)
             ∙ ap (λ (x : List ℕ). take (end - at) (drop at s) ∷ wordsIn x) (drop-drop (suc (end - at)) at s ∙ ap (λ (x : ℕ). drop x s) behind);
       }
+
+-- the words from a place on
+pub words-from : (row : List ℕ) (at : ℕ) {vs : List (List ℕ)} → wordsIn (drop at row) ≡ vs → wordsIn (take (length row - at) (drop at row)) ≡ vs
+words-from row at e = ap wordsIn (take-all (length row - at) (drop at row) (omega (arith, length-drop at row))) ∙ e
 
 -- ---- how many words
 

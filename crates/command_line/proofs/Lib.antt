@@ -16,3 +16,5 @@ pub mod Rows
 pub mod Cutting
 -- the events that they say, in the same row
 pub mod Taking
+-- what the words come to
+pub mod Replying

@@ -1,4 +1,4 @@
--- What the program answers on the plan Y, by computation.
+-- What the program answers on the plan Y, and what other words come to, by computation.
 use mathlib.Core.Path.{_≡_, refl}
 use mathlib.Core.List.{List, [], _∷_, flatMap, flatten}
 use mathlib.Core.Option.{none, some, orElse}
@@ -15,9 +15,10 @@ use Rattle.model.specs.Sheet.{addMove, movesBelow, sheetLine, sheetLines, moveB
 use Rattle.model.specs.Printed.{printedBy, fitting, spaced, printedCheck, nameLine, printedName, ranWord, placesWord, ranLine, printedRun}
 use Rattle.model.specs.Services.{asFarAs7, asFarAs10, asFarAs12, name, runEvents, printed, writtenAnswer, writtenRefusal}
 use Rattle.model.specs.Examples.{Y, Y0, Y1}
+use Rattle.command_line.specs.declared.Reply.the-variants as R
 use Rattle.command_line.specs.Words.{serviceSaid, isNumeral, isNameWord, numberSaid, eventSaid}
 use Rattle.command_line.specs.WordRow.{begunBy, wordsIn}
-use Rattle.command_line.specs.Program.{sizeSaid, oneEventSaid, before, eventsSaid, namesOf, answerBy, answerTo}
+use Rattle.command_line.specs.Program.{sizeSaid, oneEventSaid, before, eventsSaid, namesOf, answerBy, answerTo, isRefusal, helpAsked, explanationAsked, replyBy, replyAsked}
 
 pub record AnswersOnY (y : List ℕ) : Type 0 where
   pub no-word : answerTo [] y
@@ -43,3 +44,30 @@ answers-on-y = record { no-word = refl; short = refl; named = refl; ran = refl; 
 pub three-words : wordsIn (97 ∷ 98 ∷ 0 ∷ 0 ∷ 99 ∷ []) ≡ (97 ∷ 98 ∷ []) ∷ [] ∷ (99 ∷ []) ∷ []
 unfolding begunBy wordsIn
 three-words = refl
+
+-- what other words come to
+pub record Replies : Type 0 where
+  pub helped : replyAsked (bytes "help" ∷ []) ≡ R.Help
+  pub helped-more : replyAsked (bytes "help" ∷ bytes "check" ∷ []) ≡ R.Usage
+  pub explained : replyAsked (bytes "explain" ∷ bytes "14" ∷ []) ≡ R.Explanation 14
+  pub explained-none : replyAsked (bytes "explain" ∷ []) ≡ R.Usage
+  pub explained-0 : replyAsked (bytes "explain" ∷ bytes "0" ∷ []) ≡ R.Usage
+  pub explained-15 : replyAsked (bytes "explain" ∷ bytes "15" ∷ []) ≡ R.Usage
+  pub explained-two : replyAsked (bytes "explain" ∷ bytes "1" ∷ bytes "2" ∷ []) ≡ R.Usage
+  pub unknown : replyAsked (bytes "chek" ∷ []) ≡ R.Usage
+  pub served : replyAsked (bytes "name" ∷ []) ≡ R.Service
+
+pub replies : Replies
+unfolding every isDigit serviceSaid isNumeral isRefusal helpAsked explanationAsked replyBy replyAsked
+replies =
+    record {
+      helped = refl;
+      helped-more = refl;
+      explained = refl;
+      explained-none = refl;
+      explained-0 = refl;
+      explained-15 = refl;
+      explained-two = refl;
+      unknown = refl;
+      served = refl;
+    }

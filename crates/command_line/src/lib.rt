@@ -1,22 +1,23 @@
 // The words of a command line: the service that is asked for, and the number or the event that a word says.
 ghost use mathlib.Core.Path.{_≡_};
 ghost use mathlib.Core.Option.{some};
-ghost use Prim.Native.Nat.{ℕ, _≤_, _<_, min};
+ghost use Prim.Native.Nat.{ℕ, _≤_, _<_};
 ghost use lib.ListN.{length, drop};
-ghost use Rattle.model.specs.Bytes.{sameName, decimal};
+ghost use Rattle.model.specs.Bytes.{sameName};
 ghost use Rattle.model.specs.Text.{eventNumber};
 ghost use Rattle.rows.specs.Names.{namesIn};
-ghost use Rattle.command_line.specs.Words.{sameWord, serviceSaid, isNumeral, isNameWord, said, numberSaid, eventSaid};
+ghost use Rattle.command_line.specs.Words.{sameWord, serviceSaid, isNameWord, said, eventSaid};
 ghost use Rattle.command_line.specs.WordRow.{wordsIn, WordCut, Lists};
-ghost use Rattle.command_line.specs.Program.{serviceAsked, furtherWords, sizeSaid, oneEventSaid, eventsSaid};
+ghost use Rattle.command_line.specs.Program.{serviceAsked, furtherWords, sizeSaid, oneEventSaid, eventsSaid, isRefusal, helpAsked, explanationAsked, replyAsked};
 ghost use Rattle.command_line.specs.Names.{NameRows};
 use lexer::NameWord;
 use lexer::Word;
-use lexer::digit;
-use lexer::is_digit;
 use lexer::read_literal;
 use lexer::read_name;
+use numerals::number_said;
 use rows::narrow;
+
+mod numerals; // numerals, and the numbers that they write
 
 pub enum Service {
     Check,
@@ -33,6 +34,14 @@ pub enum Service {
 pub enum Said {
     Neither,
     Number(usize),
+}
+
+// What the program does: it says how it is called, what it is, or what a refusal means, or it serves.
+pub enum Reply {
+    Usage,
+    Help,
+    Explanation(usize),
+    Service,
 }
 
 // Are the two the same bytes.
@@ -80,59 +89,6 @@ fn service_said(word: &[u8]) -> Service
         return Service::Explain;
     }
     Service::Unknown
-}
-
-// One or more digits with no leading zero, 0 itself excepted.
-fn is_numeral(word: &[u8]) -> bool
-    ensures { λ r. ⌜ r ≡ isNumeral (now (word .entry)) ⌝ }
-{
-    if word.len() == 0 {
-        return false;
-    }
-    if word.len() > 1 {
-        if word[0] == b'0' {
-            return false;
-        }
-    }
-    let mut i = 0;
-    while i < word.len() {
-        if !is_digit(word[i]) {
-            return false;
-        }
-        i += 1;
-    }
-    true
-}
-
-fn least(a: usize, b: usize) -> usize
-    ensures { λ r. ⌜ r ≡ min a b ⌝ }
-{
-    if a < b { a } else { b }
-}
-
-// The number that digits write, or `most` where it is more.
-fn value(word: &[u8], most: usize) -> usize
-    requires { ⌜ most ≤ 65535 ⌝ }
-    ensures { λ r. ⌜ r ≡ min (decimal (now (word .entry))) most ⌝ }
-{
-    let mut n = 0;
-    let mut i = 0;
-    while i < word.len() {
-        n = least(n * 10 + digit(word[i]), most);
-        i += 1;
-    }
-    n
-}
-
-// A number, or `most` where it is more: so large a number means no more than `most` does.
-fn number_said(word: &[u8], most: usize) -> Said
-    requires { ⌜ most ≤ 65535 ⌝ }
-    ensures { λ r. ⌜ said r ≡ numberSaid most (now (word .entry)) ⌝ }
-{
-    if is_numeral(word) {
-        return Said::Number(value(word, most));
-    }
-    Said::Neither
 }
 
 // 1 to 16 name bytes that begin with a letter, and nothing after them.
@@ -243,6 +199,52 @@ pub fn size_said(words: &[u8], usual: usize) -> Said
         return Said::Neither;
     }
     number_said(&words[..end], 65535)
+}
+
+// Document 01 has refusals 1 to 14.
+fn is_refusal(n: usize) -> bool
+    ensures { λ r. ⌜ r ≡ isRefusal n ⌝ }
+{
+    if 1 <= n {
+        return n <= 14;
+    }
+    false
+}
+
+fn help_asked(words: &[u8]) -> Reply
+    ensures { λ r. ⌜ r ≡ helpAsked (wordsIn (now (words .entry))) ⌝ }
+{
+    if words.len() > 0 {
+        return Reply::Usage;
+    }
+    Reply::Help
+}
+
+// With no word it would be refusal 0, which there is not.
+fn explanation_asked(words: &[u8]) -> Reply
+    ensures { λ r. ⌜ r ≡ explanationAsked (wordsIn (now (words .entry))) ⌝ }
+{
+    let Said::Number(n) = size_said(words, 0) else {
+        return Reply::Usage;
+    };
+    if is_refusal(n) {
+        return Reply::Explanation(n);
+    }
+    Reply::Usage
+}
+
+// What the words come to. Those of a service are judged with its text.
+pub fn reply_asked(words: &[u8]) -> Reply
+    ensures { λ r. ⌜ r ≡ replyAsked (wordsIn (now (words .entry))) ⌝ }
+{
+    let at = second_word(words);
+    let asked = service_asked(words);
+    match asked {
+        Service::Unknown => Reply::Usage,
+        Service::Help => help_asked(&words[at..]),
+        Service::Explain => explanation_asked(&words[at..]),
+        _ => Reply::Service,
+    }
 }
 
 // The event that one word says.

@@ -1,7 +1,4 @@
 // What the program says of itself: usage, help, and what each refusal means.
-ghost use mathlib.Core.Path.{_≡_};
-ghost use mathlib.Core.Bool.{_&&_};
-ghost use lib.Dec.{leb};
 use libc::STDERR_FILENO;
 use libc::STDOUT_FILENO;
 
@@ -43,16 +40,6 @@ pub fn put_help() {
 
 fn put(lines: &[u8]) {
     io::write_all(STDOUT_FILENO, lines);
-}
-
-// Document 01 has refusals 1 to 14.
-pub fn is_refusal(n: usize) -> bool
-    ensures { λ r. ⌜ r ≡ (leb 1 n && leb n 14) ⌝ }
-{
-    if 1 <= n {
-        return n <= 14;
-    }
-    false
 }
 
 // Of the text's form and bounds; of the plan; of the split; of the call.

@@ -1,2 +1,2 @@
--- `Gathered`: the words lie in their row.
+-- `Gathered`: the words in their row.
 pub mod Gathered

@@ -7,12 +7,8 @@ ghost use Rattle.io.specs.Counts.{Counts};
 ghost use Rattle.writers.specs.Written.{Writes};
 ghost use Rattle.split.specs.Gathered.{Gathers};
 use answering::answer;
-use command_line::Said;
-use command_line::Service;
-use command_line::second_word;
-use command_line::service_asked;
-use command_line::size_said;
-use help::is_refusal;
+use command_line::Reply;
+use command_line::reply_asked;
 use help::put_explanation;
 use help::put_help;
 use help::put_usage;
@@ -80,34 +76,13 @@ fn serve(words: &mut [u8]) {
     }
 }
 
-fn help(words: &[u8]) {
-    if second_word(words) == words.len() {
-        put_help();
-    } else {
-        put_usage();
-    }
-}
-
-fn explain(words: &[u8]) {
-    let at = second_word(words);
-    let Said::Number(refusal) = size_said(&words[at..], 0) else {
-        put_usage();
-        return;
-    };
-    if is_refusal(refusal) {
-        put_explanation(refusal);
-    } else {
-        put_usage();
-    }
-}
-
 fn respond(words: &mut [u8]) {
-    let asked = service_asked(words);
-    match asked {
-        Service::Unknown => put_usage(),
-        Service::Help => help(words),
-        Service::Explain => explain(words),
-        _ => serve(words),
+    let reply = reply_asked(words);
+    match reply {
+        Reply::Usage => put_usage(),
+        Reply::Help => put_help(),
+        Reply::Explanation(refusal) => put_explanation(refusal),
+        Reply::Service => serve(words),
     }
 }
 

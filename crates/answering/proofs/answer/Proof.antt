@@ -2,7 +2,8 @@
 use borrow.Author.Needs.{needs}
 use denote.Ref.{now}
 use Rattle.command_line.specs.WordRow.{wordsIn}
-use Rattle.answering.proofs.Saying.{shows-answer, answered, words-from}
+use Rattle.command_line.proofs.Cutting.{words-from}
+use Rattle.answering.proofs.Saying.{shows-answer, answered}
 use Rattle.answering.proofs.answer.Statement.{statement}
 use Rattle.answering.proofs.answer.Tie as tie
 

@@ -1,9 +1,9 @@
--- `command_line::number_said` meets its contract: each way out is a law of `Saying`.
+-- `command_line::numerals::number_said` meets its contract: each way out is a law of `Saying`.
 use borrow.Author.Needs.{needs}
 use denote.Ref.{now}
 use Rattle.command_line.proofs.Saying.{says-number, says-neither}
-use Rattle.command_line.proofs.number_said.Statement.{statement}
-use Rattle.command_line.proofs.number_said.Tie as tie
+use Rattle.command_line.proofs.numerals.number_said.Statement.{statement}
+use Rattle.command_line.proofs.numerals.number_said.Tie as tie
 
 is-numeral-requires : tie.Need-is-numeral-requires
 is-numeral-requires c κs = search needs

@@ -1,12 +1,15 @@
--- `help::is_refusal` meets its contract: its two tests are the contract's.
+-- `command_line::is_refusal` meets its contract: its two tests are the contract's.
 use borrow.Author.Tests.{le-leb, lt-leb}
-use Rattle.help.proofs.is_refusal.Statement.{statement}
-use Rattle.help.proofs.is_refusal.Tie as tie
+use Rattle.command_line.specs.Program.{isRefusal}
+use Rattle.command_line.proofs.is_refusal.Statement.{statement}
+use Rattle.command_line.proofs.is_refusal.Tie as tie
 
 returns : tie.Need-returns
+unfolding isRefusal
 returns c = rw (le-leb 1 (c .before .args .n) (c .if1 .taken))
 
 returns-2 : tie.Need-returns-2
+unfolding isRefusal
 returns-2 c = rw (lt-leb 1 (c .before .args .n) (c .if1 .left))
 
 pub is-refusal-spec : {M : Type 1} → statement M

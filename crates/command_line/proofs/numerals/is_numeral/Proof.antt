@@ -1,4 +1,4 @@
--- `command_line::is_numeral` meets its contract: the loop passes digits only. The laws are in `Counting`.
+-- `command_line::numerals::is_numeral` meets its contract: the loop passes digits only. The laws are in `Counting`.
 use Prim.Native.Nat.{_-_}
 use native.Mathlib.Omega.{arith}
 use mathlib.Core.Logic.{⊎-elim}
@@ -7,8 +7,8 @@ use borrow.Author.Tests.{not-true, not-false}
 use denote.Ref.{now}
 use lib.ListN.{length}
 use Rattle.command_line.proofs.Counting.{Digits, digits-start, digits-more, digits-stop, digits-end, no-numeral-empty, no-numeral-zero, is-numeral}
-use Rattle.command_line.proofs.is_numeral.Statement.{statement}
-use Rattle.command_line.proofs.is_numeral.Tie as tie
+use Rattle.command_line.proofs.numerals.is_numeral.Statement.{statement}
+use Rattle.command_line.proofs.numerals.is_numeral.Tie as tie
 
 abbrev Inv-loop : tie.InvT-loop
 Inv-loop word i₀ i = Digits word i

@@ -1,11 +1,11 @@
--- `command_line::value` meets its contract: the loop cuts the number down to the bound digit by digit. The laws are in `Counting`.
+-- `command_line::numerals::value` meets its contract: the loop cuts the number down to the bound digit by digit. The laws are in `Counting`.
 use Prim.Native.Nat.{_-_}
 use native.Mathlib.Omega.{arith}
 use borrow.Author.Needs.{needs}
 use lib.ListN.{length}
 use Rattle.command_line.proofs.Counting.{Counted, counted-start, counted-more, counted-end}
-use Rattle.command_line.proofs.value.Statement.{statement}
-use Rattle.command_line.proofs.value.Tie as tie
+use Rattle.command_line.proofs.numerals.value.Statement.{statement}
+use Rattle.command_line.proofs.numerals.value.Tie as tie
 
 abbrev Inv-loop : tie.InvT-loop
 Inv-loop word most n₀ i₀ n i = Counted word most n i
