@@ -38,7 +38,7 @@ fn hand_over<'a>(
     let lent = out.len();
     let size = sheet_len(c, name_len, sizes, place, pre, post);
     if lent < size {
-        return Answer::Refused(Refusal::BufferTooShort { needed: size });
+        return Answer::Refused(Refusal::BufferTooShort { needed: size }); // 13 short sheet
     }
     write_sheet(
         text,

@@ -150,7 +150,7 @@ fn check_closed(
     let mut e = 0;
     while e < events {
         if let Found::State(s) = open_state(sets, pre, excited, machines, e) {
-            return Verdict::Refused(Refusal::NotExcitationClosed {
+            return Verdict::Refused(Refusal::NotExcitationClosed { // 12 open
                 event: e,
                 state: wide(s),
             });
@@ -177,7 +177,7 @@ pub fn check_cover_in(
     let events = c.events;
     let event = ineffective_event(pre, machines, events);
     if event < events {
-        return Verdict::Refused(Refusal::IneffectiveEvent { event });
+        return Verdict::Refused(Refusal::IneffectiveEvent { event }); // 11 unheld
     }
     add_states(place, c.states, machines, sets);
     check_closed(sets, pre, excited, machines, events)

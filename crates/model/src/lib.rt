@@ -21,34 +21,34 @@ pub struct Transition {
     pub target: u8,
 }
 
-// Why a call is refused. Document 01 has the table; a comment gives its word.
+// Why a call is refused. Document 01 has the table; a comment gives its number and word there, here and where it is said.
 pub enum Refusal {
-    // misformed
+    // 1 misformed
     Malformed { line: usize },
-    // oversize; line 0 is the whole text
+    // 2 oversize; line 0 is the whole text
     LimitExceeded { line: usize },
-    // stranger
+    // 3 stranger
     Undeclared { line: usize },
-    // standstill
+    // 4 standstill
     SelfLoop { line: usize },
-    // fork
+    // 5 fork
     Nondeterministic { line: usize, earlier: usize },
-    // idle event
+    // 6 idle event
     UnusedEvent { event: usize },
-    // unreached
+    // 7 unreached
     Unreachable { state: usize },
-    // doubled
+    // 8 doubled
     DuplicateState { machine: usize, state: usize },
-    // missing
+    // 9 missing
     UncoveredState { machine: usize, state: usize },
-    // uneven
+    // 10 uneven
     NotARegion { machine: usize, event: usize },
-    // unheld
+    // 11 unheld
     IneffectiveEvent { event: usize },
-    // open
+    // 12 open
     NotExcitationClosed { event: usize, state: usize },
-    // short sheet
+    // 13 short sheet
     BufferTooShort { needed: usize },
-    // odd call
+    // 14 odd call
     UnknownEvent { position: usize },
 }

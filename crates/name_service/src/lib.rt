@@ -54,7 +54,7 @@ fn part_in_rows<'a>(
             end,
         };
     }
-    no_part(Refusal::UnknownEvent { position: 0 })
+    no_part(Refusal::UnknownEvent { position: 0 }) // 14 odd call
 }
 
 // The name of an event of a text that is checked as far as 7.

@@ -46,7 +46,7 @@ pub fn print_check(text: &[u8], lent: usize, out: &mut [u8]) -> usize
         Answer::Refused(why) => print_refusal(why, out),
         Answer::Accepted { size } => {
             if lent < size {
-                return print_refusal(Refusal::BufferTooShort { needed: size }, out);
+                return print_refusal(Refusal::BufferTooShort { needed: size }, out); // 13 short sheet
             }
             size
         }
@@ -101,7 +101,7 @@ pub fn print_steps(text: &[u8], lent: usize, out: &mut [u8]) -> usize
     let tables = reading.tables;
     let count = tables.counts.transitions;
     if lent < count {
-        return print_refusal(Refusal::BufferTooShort { needed: count }, out);
+        return print_refusal(Refusal::BufferTooShort { needed: count }, out); // 13 short sheet
     }
     let a = write_bytes(b"(steps ", out, 0);
     let b = write_numeral(count, out, a);

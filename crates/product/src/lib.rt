@@ -207,7 +207,7 @@ pub fn run_events<'a>(
 {
     let position = unknown_event(events, declared);
     if position < events.len() {
-        return refused(Refusal::UnknownEvent { position });
+        return refused(Refusal::UnknownEvent { position }); // 14 odd call
     }
     run_from(pre, post, machines, start, events)
 }

@@ -18,16 +18,16 @@ fn declared_states(s: &[u8]) -> Section
     ensures { λ r. ⌜ StatesRead (now (s .entry)) r ⌝ }
 {
     if MAX_TEXT < s.len() {
-        return Section::Refused(Refusal::LimitExceeded { line: 0 });
+        return Section::Refused(Refusal::LimitExceeded { line: 0 }); // 2 oversize
     }
     let Word::Found { value: n, next } = read_states(s, 0) else {
-        return Section::Refused(Refusal::Malformed { line: 1 });
+        return Section::Refused(Refusal::Malformed { line: 1 }); // 1 misformed
     };
     if n < 1 {
-        return Section::Refused(Refusal::LimitExceeded { line: 1 });
+        return Section::Refused(Refusal::LimitExceeded { line: 1 }); // 2 oversize
     }
     if MAX_STATES < n {
-        return Section::Refused(Refusal::LimitExceeded { line: 1 });
+        return Section::Refused(Refusal::LimitExceeded { line: 1 }); // 2 oversize
     }
     Section::Read { count: n, next }
 }
@@ -48,13 +48,13 @@ fn declared_events(
     let formed = names.formed;
     let count = names.count;
     if !formed {
-        return Section::Refused(Refusal::Malformed { line: 2 });
+        return Section::Refused(Refusal::Malformed { line: 2 }); // 1 misformed
     }
     if MAX_EVENTS < count {
-        return Section::Refused(Refusal::LimitExceeded { line: 2 });
+        return Section::Refused(Refusal::LimitExceeded { line: 2 }); // 2 oversize
     }
     if !distinct_names(len, high, low, count) {
-        return Section::Refused(Refusal::Undeclared { line: 2 });
+        return Section::Refused(Refusal::Undeclared { line: 2 }); // 3 stranger
     }
     Section::Read {
         count,

@@ -54,15 +54,15 @@ pub fn read_machines(
         let here = line + k;
         let m = read_machine(s, i, n);
         if !m.formed {
-            return Section::Refused(Refusal::Malformed { line: here });
+            return Section::Refused(Refusal::Malformed { line: here }); // 1 misformed
         }
         let within = within_limits(k, m.places);
         let declared = m.declared;
         if !within {
-            return Section::Refused(Refusal::LimitExceeded { line: here });
+            return Section::Refused(Refusal::LimitExceeded { line: here }); // 2 oversize
         }
         if !declared {
-            return Section::Refused(Refusal::Undeclared { line: here });
+            return Section::Refused(Refusal::Undeclared { line: here }); // 3 stranger
         }
         sizes[k] = m.places;
         duplicate[k] = m.duplicate;
@@ -71,7 +71,7 @@ pub fn read_machines(
         i = m.next;
     }
     if k == 0 {
-        return Section::Refused(Refusal::LimitExceeded { line });
+        return Section::Refused(Refusal::LimitExceeded { line }); // 2 oversize
     }
     Section::Read { count: k, next: i }
 }

@@ -60,13 +60,13 @@ fn read_words<'a>(
     };
     let line = 3 + k;
     if MAX_TRANSITIONS <= k {
-        return StepAt::Refused(Refusal::LimitExceeded { line });
+        return StepAt::Refused(Refusal::LimitExceeded { line }); // 2 oversize
     }
     let source = step.source;
     let target = step.target;
     let event = find_event(len, high, low, count, step.len, step.high, step.low);
     if !all_declared(source, target, n, event, count) {
-        return StepAt::Refused(Refusal::Undeclared { line });
+        return StepAt::Refused(Refusal::Undeclared { line }); // 3 stranger
     }
     StepAt::Found {
         source,
@@ -101,7 +101,7 @@ fn step_at<'a>(
         return read_words(s, at, n, len, high, low, count, k);
     };
     if MAX_TRANSITIONS <= k {
-        return StepAt::Refused(Refusal::LimitExceeded { line: 3 + k });
+        return StepAt::Refused(Refusal::LimitExceeded { line: 3 + k }); // 2 oversize
     }
     StepAt::Found {
         source,

@@ -94,15 +94,15 @@ pub fn check_in_turn(
     while machine < c.machines {
         let state = duplicate[machine];
         if state != NO_STATE {
-            return Verdict::Refused(Refusal::DuplicateState { machine, state });
+            return Verdict::Refused(Refusal::DuplicateState { machine, state }); // 8 doubled
         }
         let state = uncovered_state(place, machine, c.states);
         if state < c.states {
-            return Verdict::Refused(Refusal::UncoveredState { machine, state });
+            return Verdict::Refused(Refusal::UncoveredState { machine, state }); // 9 missing
         }
         let event = scan_events(c, source, target, place, first, next, machine, pre, post);
         if event < c.events {
-            return Verdict::Refused(Refusal::NotARegion { machine, event });
+            return Verdict::Refused(Refusal::NotARegion { machine, event }); // 10 uneven
         }
         machine += 1;
     }

@@ -50,7 +50,7 @@ fn list(text: &[u8], room: usize, row: &mut [u8]) -> Answer
     }
     let needed = read.counts.transitions;
     if room < needed {
-        return Answer::Refused(Refusal::BufferTooShort { needed });
+        return Answer::Refused(Refusal::BufferTooShort { needed }); // 13 short sheet
     }
     list_transitions(&source, &event, &target, needed, row);
     Answer::Accepted { size: needed }

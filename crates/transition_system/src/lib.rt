@@ -76,11 +76,11 @@ fn add_transition<'a>(
     // the transitions follow the lines of the states and the events
     let line = k + 3;
     if s == t {
-        return Verdict::Refused(Refusal::SelfLoop { line });
+        return Verdict::Refused(Refusal::SelfLoop { line }); // 4 standstill
     }
     if contains_at(excited, wide(e), s) {
         let earlier = first_leading(source, event, k, s, e) + 3;
-        return Verdict::Refused(Refusal::Nondeterministic { line, earlier });
+        return Verdict::Refused(Refusal::Nondeterministic { line, earlier }); // 5 fork
     }
     insert(excited, wide(e), s);
     insert(successors, wide(s), t);
@@ -197,12 +197,12 @@ fn check_with<'a>(
     let events = c.events;
     let unused = unused_event(excited, events);
     if unused < events {
-        return Verdict::Refused(Refusal::UnusedEvent { event: unused });
+        return Verdict::Refused(Refusal::UnusedEvent { event: unused }); // 6 idle event
     }
     let states = c.states;
     let state = unreached_state(successors, narrow(c.initial), states);
     if state < states {
-        return Verdict::Refused(Refusal::Unreachable { state });
+        return Verdict::Refused(Refusal::Unreachable { state }); // 7 unreached
     }
     Verdict::Passed
 }
