@@ -18,7 +18,8 @@ use Rattle.model.specs.Examples.{Y, Y0, Y1}
 use Rattle.command_line.specs.declared.Reply.the-variants as R
 use Rattle.command_line.specs.Words.{serviceSaid, isNumeral, isNameWord, numberSaid, eventSaid}
 use Rattle.command_line.specs.WordRow.{begunBy, wordsIn}
-use Rattle.command_line.specs.Program.{sizeSaid, oneEventSaid, before, eventsSaid, namesOf, answerBy, answerTo, isRefusal, helpAsked, explanationAsked, replyBy, replyAsked}
+use Rattle.command_line.specs.Program.{sizeSaid, oneEventSaid, before, eventsSaid, namesOf, answerBy, answerTo, serviceAsked, furtherWords}
+use Rattle.command_line.specs.Replies.{isRefusal, numberFrom, refusalSaid, saysEvent, fitsExplain, fits, leastWords, wrongFrom, isUnknown, wrongWord, helpAsked, explanationAsked, replyBy, replyAsked}
 
 pub record AnswersOnY (y : List ℕ) : Type 0 where
   pub no-word : answerTo [] y
@@ -45,29 +46,40 @@ pub three-words : wordsIn (97 ∷ 98 ∷ 0 ∷ 0 ∷ 99 ∷ []) ≡ (97 ∷ 98 �
 unfolding begunBy wordsIn
 three-words = refl
 
--- what other words come to
+-- what words come to
 pub record Replies : Type 0 where
   pub helped : replyAsked (bytes "help" ∷ []) ≡ R.Help
-  pub helped-more : replyAsked (bytes "help" ∷ bytes "check" ∷ []) ≡ R.Usage
+  pub helped-text : replyAsked (bytes "help" ∷ bytes "text" ∷ []) ≡ R.TextForm
+  pub helped-more : replyAsked (bytes "help" ∷ bytes "check" ∷ []) ≡ R.Usage 2
   pub explained : replyAsked (bytes "explain" ∷ bytes "14" ∷ []) ≡ R.Explanation 14
-  pub explained-none : replyAsked (bytes "explain" ∷ []) ≡ R.Usage
-  pub explained-0 : replyAsked (bytes "explain" ∷ bytes "0" ∷ []) ≡ R.Usage
-  pub explained-15 : replyAsked (bytes "explain" ∷ bytes "15" ∷ []) ≡ R.Usage
-  pub explained-two : replyAsked (bytes "explain" ∷ bytes "1" ∷ bytes "2" ∷ []) ≡ R.Usage
-  pub unknown : replyAsked (bytes "chek" ∷ []) ≡ R.Usage
-  pub served : replyAsked (bytes "name" ∷ []) ≡ R.Service
+  pub explained-name : replyAsked (bytes "explain" ∷ bytes "open" ∷ []) ≡ R.Explanation 12
+  pub explained-details : replyAsked (bytes "explain" ∷ bytes "12" ∷ bytes "0" ∷ bytes "2" ∷ []) ≡ R.Explanation 12
+  pub explained-none : replyAsked (bytes "explain" ∷ []) ≡ R.Usage 2
+  pub explained-0 : replyAsked (bytes "explain" ∷ bytes "0" ∷ []) ≡ R.Usage 2
+  pub explained-15 : replyAsked (bytes "explain" ∷ bytes "15" ∷ []) ≡ R.Usage 2
+  pub explained-three : replyAsked (bytes "explain" ∷ bytes "1" ∷ bytes "2" ∷ bytes "3" ∷ bytes "4" ∷ []) ≡ R.Usage 5
+  pub unknown : replyAsked (bytes "chek" ∷ bytes "5" ∷ []) ≡ R.Usage 1
+  pub unnamed : replyAsked (bytes "name" ∷ []) ≡ R.Usage 2
+  pub no-event : replyAsked (bytes "run" ∷ bytes "ready" ∷ bytes "Brake" ∷ []) ≡ R.Usage 3
+  pub served : replyAsked (bytes "run" ∷ bytes "ready" ∷ bytes "1" ∷ []) ≡ R.Service
 
 pub replies : Replies
-unfolding every isDigit serviceSaid isNumeral isRefusal helpAsked explanationAsked replyBy replyAsked
+unfolding every isDigit isLetter isNameByte isName serviceSaid isNumeral isNameWord serviceAsked furtherWords isRefusal numberFrom refusalSaid saysEvent fitsExplain fits leastWords
+    wrongFrom isUnknown wrongWord helpAsked explanationAsked replyBy replyAsked
 replies =
     record {
       helped = refl;
+      helped-text = refl;
       helped-more = refl;
       explained = refl;
+      explained-name = refl;
+      explained-details = refl;
       explained-none = refl;
       explained-0 = refl;
       explained-15 = refl;
-      explained-two = refl;
+      explained-three = refl;
       unknown = refl;
+      unnamed = refl;
+      no-event = refl;
       served = refl;
     }

@@ -1,7 +1,9 @@
--- `Words`: what the words of a command line say. `WordRow`: the words in one row of bytes. `Program`: what the program answers to its words.
+-- `Words`: what the words of a command line say. `WordRow`: the words in one row of bytes. `Program`: what the program answers to its words. `Replies`: what they come to,
+-- which word is wrong.
 -- `Examples`: that computed. `Names`: the names of a text in rows.
 pub mod Words
 pub mod WordRow
 pub mod Program
+pub mod Replies
 pub mod Examples
 pub mod Names

@@ -1,9 +1,7 @@
 -- What the program answers to its words, those after its own name, and the text on its standard input. Document 01 leaves this to the program, so all of it is believed.
 use Prim.Native.Nat.{ℕ}
-use mathlib.Core.Bool.{Bool, _&&_, cond}
 use mathlib.Core.List.{List, [], _∷_}
 use mathlib.Core.Option.{Option, none, some, Option·map}
-use lib.Dec.{leb}
 use Rattle.model.specs.Refusal.{Checked, refused, passed}
 use Rattle.model.specs.Bytes as B
 use Rattle.model.specs.Text.{Input}
@@ -11,9 +9,7 @@ use Rattle.model.specs.Services.{asFarAs7, printed}
 use Rattle.model.specs.Printed.{printedCheck, printedSteps, printedName, printedRun, printedThin}
 use Rattle.command_line.specs.declared.Service.{Service}
 use Rattle.command_line.specs.declared.Service.the-variants.{Check, Steps, Name, Run, Thin, Help, Explain, Unknown}
-use Rattle.command_line.specs.declared.Reply.{Reply}
-use Rattle.command_line.specs.declared.Reply.the-variants as R
-use Rattle.command_line.specs.Words.{serviceSaid, isNumeral, numberSaid, eventSaid}
+use Rattle.command_line.specs.Words.{serviceSaid, numberSaid, eventSaid}
 
 -- the size that a word says, or the usual one where there is no word
 unfoldable pub sizeSaid : ℕ → List (List ℕ) → Option ℕ
@@ -57,46 +53,10 @@ answerBy Help ws s = none
 answerBy Explain ws s = none
 answerBy Unknown ws s = none
 
--- What is printed; none: what is put then `replyAsked` says, and for a service it is the line of usage. With no word the sheet is printed, or the refusal.
+-- What is printed; none: what is put then `replyAsked` says (Replies). With no word the sheet is printed, or the refusal.
 unfoldable pub answerTo : List (List ℕ) → List ℕ → Option (List ℕ)
 answerTo [] s = some (printed s)
 answerTo (w ∷ ws) s = answerBy (serviceSaid w) ws s
-
--- document 01 has refusals 1 to 14
-unfoldable pub isRefusal : ℕ → Bool
-isRefusal n = leb 1 n && leb n 14
-
-unfoldable pub helpAsked : List (List ℕ) → Reply
-helpAsked [] = R.Help
-helpAsked (w ∷ ws) = R.Usage
-
--- one word that is the numeral of a refusal
-unfoldable pub explanationAsked : List (List ℕ) → Reply
-explanationAsked [] = R.Usage
-explanationAsked (w ∷ []) = cond (isNumeral w && isRefusal (B.decimal w)) (R.Explanation (B.decimal w)) R.Usage
-explanationAsked (w ∷ v ∷ ws) = R.Usage
-
-unfoldable pub replyBy : Service → List (List ℕ) → Reply
-replyBy Check ws = R.Service
-replyBy Steps ws = R.Service
-replyBy Name ws = R.Service
-replyBy Run ws = R.Service
-replyBy Thin ws = R.Service
-replyBy Help ws = helpAsked ws
-replyBy Explain ws = explanationAsked ws
-replyBy Unknown ws = R.Usage
-
--- what the words come to: the line of usage, what `help` or `explain` says, or a service, which alone reads the text
-unfoldable pub replyAsked : List (List ℕ) → Reply
-replyAsked [] = R.Service
-replyAsked (w ∷ ws) = replyBy (serviceSaid w) ws
-
--- the bytes on standard output: none where there is no answer
-unfoldable pub outputOf : Option (List ℕ) → List ℕ
-outputOf none = []
-outputOf (some word) = word
-
--- ---- the same, as the program finds it out
 
 -- the service that the first word says
 unfoldable pub serviceAsked : List (List ℕ) → Service
@@ -107,3 +67,8 @@ serviceAsked (w ∷ ws) = serviceSaid w
 unfoldable pub furtherWords : List (List ℕ) → List (List ℕ)
 furtherWords [] = []
 furtherWords (w ∷ ws) = ws
+
+-- the bytes on standard output: none where there is no answer
+unfoldable pub outputOf : Option (List ℕ) → List ℕ
+outputOf none = []
+outputOf (some word) = word

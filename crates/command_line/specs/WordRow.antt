@@ -29,6 +29,11 @@ pub record WordCut (s : List ℕ) (at end : ℕ) : Type 0 where
   pub most : end ≤ length s
   pub cut : at < length s → wordsIn (drop at s) ≡ take (end - at) (drop at s) ∷ wordsIn (drop (end + 1) s)
 
+-- the word with this number, counted from 1, begins here, and behind it the others
+pub record BeginsAt (number : ℕ) (s : List ℕ) (at : ℕ) : Type 0 where
+  pub most : at ≤ length s
+  pub others : wordsIn (drop at s) ≡ drop (number - 1) (wordsIn s)
+
 -- so many numbers at the beginning of a row
 unfoldable pub listSaid : Said → List ℕ → Option (List ℕ)
 listSaid Neither row = none

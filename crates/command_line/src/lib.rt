@@ -7,9 +7,10 @@ ghost use Rattle.model.specs.Bytes.{sameName};
 ghost use Rattle.model.specs.Text.{eventNumber};
 ghost use Rattle.rows.specs.Names.{namesIn};
 ghost use Rattle.command_line.specs.Words.{sameWord, serviceSaid, isNameWord, said, eventSaid};
-ghost use Rattle.command_line.specs.WordRow.{wordsIn, WordCut, Lists};
-ghost use Rattle.command_line.specs.Program.{serviceAsked, furtherWords, sizeSaid, oneEventSaid, eventsSaid, isRefusal, helpAsked, explanationAsked, replyAsked};
+ghost use Rattle.command_line.specs.WordRow.{wordsIn, WordCut, BeginsAt, Lists};
+ghost use Rattle.command_line.specs.Program.{serviceAsked, furtherWords, sizeSaid, oneEventSaid, eventsSaid};
 ghost use Rattle.command_line.specs.Names.{NameRows};
+pub use asked::reply_asked;
 use lexer::NameWord;
 use lexer::Word;
 use lexer::read_literal;
@@ -17,6 +18,8 @@ use lexer::read_name;
 use numerals::number_said;
 use rows::narrow;
 
+mod asked; // what the words come to
+mod fitting; // which words fit their service
 mod numerals; // numerals, and the numbers that they write
 
 pub enum Service {
@@ -36,10 +39,11 @@ pub enum Said {
     Number(usize),
 }
 
-// What the program does: it says how it is called, what it is, or what a refusal means, or it serves.
+// What the program does: it says which word is wrong, what it is, how a text is written or what a refusal means, or it serves.
 pub enum Reply {
-    Usage,
+    Usage(usize),
     Help,
+    TextForm,
     Explanation(usize),
     Service,
 }
@@ -151,7 +155,7 @@ fn event_said<'a>(
 // The words lie in one row of bytes, each ended by byte 0.
 
 // Where the word ends that begins at `at`.
-fn word_end(words: &[u8], at: usize) -> usize
+pub fn word_end(words: &[u8], at: usize) -> usize
     requires { ⌜ at ≤ length (now words) ⌝ }
     ensures { λ r. ⌜ WordCut (now (words .entry)) at r ⌝ }
 {
@@ -201,50 +205,17 @@ pub fn size_said(words: &[u8], usual: usize) -> Said
     number_said(&words[..end], 65535)
 }
 
-// Document 01 has refusals 1 to 14.
-fn is_refusal(n: usize) -> bool
-    ensures { λ r. ⌜ r ≡ isRefusal n ⌝ }
+// Where the word with this number begins, and the others after it; the end of the row if there is none.
+pub fn word_begin(words: &[u8], number: usize) -> usize
+    ensures { λ r. ⌜ BeginsAt number (now (words .entry)) r ⌝ }
 {
-    if 1 <= n {
-        return n <= 14;
+    let mut at = 0;
+    let mut n = 1;
+    while n < number {
+        at += second_word(&words[at..]);
+        n += 1;
     }
-    false
-}
-
-fn help_asked(words: &[u8]) -> Reply
-    ensures { λ r. ⌜ r ≡ helpAsked (wordsIn (now (words .entry))) ⌝ }
-{
-    if words.len() > 0 {
-        return Reply::Usage;
-    }
-    Reply::Help
-}
-
-// With no word it would be refusal 0, which there is not.
-fn explanation_asked(words: &[u8]) -> Reply
-    ensures { λ r. ⌜ r ≡ explanationAsked (wordsIn (now (words .entry))) ⌝ }
-{
-    let Said::Number(n) = size_said(words, 0) else {
-        return Reply::Usage;
-    };
-    if is_refusal(n) {
-        return Reply::Explanation(n);
-    }
-    Reply::Usage
-}
-
-// What the words come to. Those of a service are judged with its text.
-pub fn reply_asked(words: &[u8]) -> Reply
-    ensures { λ r. ⌜ r ≡ replyAsked (wordsIn (now (words .entry))) ⌝ }
-{
-    let at = second_word(words);
-    let asked = service_asked(words);
-    match asked {
-        Service::Unknown => Reply::Usage,
-        Service::Help => help_asked(&words[at..]),
-        Service::Explain => explanation_asked(&words[at..]),
-        _ => Reply::Service,
-    }
+    at
 }
 
 // The event that one word says.

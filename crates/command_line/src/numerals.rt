@@ -8,7 +8,7 @@ use lexer::digit;
 use lexer::is_digit;
 
 // One or more digits with no leading zero, 0 itself excepted.
-fn is_numeral(word: &[u8]) -> bool
+pub fn is_numeral(word: &[u8]) -> bool
     ensures { λ r. ⌜ r ≡ isNumeral (now (word .entry)) ⌝ }
 {
     if word.len() == 0 {

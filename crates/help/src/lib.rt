@@ -1,13 +1,63 @@
-// What the program says of itself: usage, help, and what each refusal means.
+// What the program says of itself: which word is wrong, help, how a text is written, and what each refusal means.
+ghost use Prim.Native.Nat.{_≤_};
+ghost use lib.ListN.{length};
+use command_line::word_begin;
+use command_line::word_end;
+pub use explanations::put_explanation;
 use libc::STDERR_FILENO;
 use libc::STDOUT_FILENO;
 
-// One line, to standard error: nothing is answered.
-pub fn put_usage() {
-    io::write_all(
-        STDERR_FILENO,
-        b"usage: split [check [LENT] | steps [LENT] | name EVENT | run EVENT.. | thin | help | explain N] < TEXT\n",
+mod explanations; // what each refusal means, and what to do about it
+
+fn put_error(words: &[u8]) {
+    io::write_all(STDERR_FILENO, words);
+}
+
+fn put_usage_line() {
+    put_error(
+        b"; usage: ./split [check [LENT] | steps [LENT] | name EVENT | run EVENT.. | thin | help [text] | explain REFUSAL [A [B]]] < TEXT\n",
     );
+}
+
+// A word that can be shown in a line: 1 to 40 bytes that print.
+fn is_plain(word: &[u8]) -> bool {
+    let mut i = 0;
+    while i < word.len() {
+        if word[i] <= b' ' {
+            return false;
+        }
+        if word[i] > b'~' {
+            return false;
+        }
+        i += 1;
+    }
+    (1 <= i) & (i <= 40)
+}
+
+fn put_shown(word: &[u8]) {
+    if is_plain(word) {
+        put_error(b": ");
+        put_error(word);
+    }
+}
+
+// One line, to standard error: nothing is answered. The row begins with the wrong word, and is empty where one is missing.
+pub fn put_usage(number: usize, row: &[u8]) {
+    put_error(b"split: word ");
+    io::print_decimal(STDERR_FILENO, number as u64);
+    let end = word_end(row, 0);
+    if row.len() == 0 {
+        put_error(b" is missing");
+    } else {
+        put_error(b" is wrong");
+    }
+    put_shown(&row[..end]);
+    put_usage_line();
+}
+
+pub fn put_too_many_words() {
+    put_error(b"split: the words are too long to be read");
+    put_usage_line();
 }
 
 // The services and the refusals, in a screen.
@@ -16,18 +66,20 @@ pub fn put_help() {
         STDOUT_FILENO,
         b"Reads a plan and its split on standard input and answers for one service:\n\
           \n\
-          \x20 split               as split check\n\
-          \x20 split check [LENT]  the boards' sheet, in LENT bytes (32768)\n\
-          \x20 split steps [LENT]  the plan's steps by number, in LENT records (1024)\n\
-          \x20 split name EVENT    the name of an event\n\
-          \x20 split run EVENT..   runs the events, in this order, on the machines together\n\
-          \x20 split thin          drops machines that add nothing, and lists those kept\n\
-          \x20 split help          this screen\n\
-          \x20 split explain N     what refusal N means, and what to do about it\n\
+          \x20 ./split               as ./split check\n\
+          \x20 ./split check [LENT]  the boards' sheet, in LENT bytes (32768)\n\
+          \x20 ./split steps [LENT]  the plan's steps by number, in LENT records (1024)\n\
+          \x20 ./split name EVENT    the name of an event\n\
+          \x20 ./split run EVENT..   runs the events, in this order, on the machines together\n\
+          \x20 ./split thin          drops machines that add nothing, and lists those kept\n\
+          \x20 ./split help [text]   this screen; with text: how a text is written\n\
+          \x20 ./split explain REFUSAL [A [B]]  what it means, and what to do about it\n\
           \n\
           EVENT is a name, or a number counted from 0 as line 2 lists the events.\n\
+          The plan may also be a file: a word with a dot or a slash, or -f FILE.\n\
+          Status 0: answered, 1: refused, 2: no call, or nothing could be read or written.\n\
           \n\
-          (refused N A B) says why a call is refused:\n\
+          (refused N A B) says why a call is refused; REFUSAL is N or its (first) word:\n\
           \x20  1 misformed   line A                   8 doubled     machine A, state B\n\
           \x20  2 oversize    line A; 0: the text      9 missing     machine A, state B\n\
           \x20  3 stranger    line A                  10 uneven      machine A, event B\n\
@@ -38,95 +90,74 @@ pub fn put_help() {
     );
 }
 
-fn put(lines: &[u8]) {
-    io::write_all(STDOUT_FILENO, lines);
+// How a text is written, in a screen.
+pub fn put_text_form() {
+    io::write_all(
+        STDOUT_FILENO,
+        b"A text is a plan and its split, in lines of this order:\n\
+          \n\
+          \x20 (states 4)                 how many states: 0 to 3, and 0 is the start\n\
+          \x20 (events ready brake home)  the events by name, from 0 on; (events) if none\n\
+          \x20 (step 0 ready 1)           from-state, event, to-state; none or more lines\n\
+          \x20 (machine (0 2) (1 3))      its places with their states; one or more lines\n\
+          \n\
+          Every line ends in byte 10, the last one too, with no byte 13 before it. One\n\
+          space parts two items and none stands elsewhere; no tab, no blank line, no\n\
+          comment, no byte order mark. A name has 1 to 16 of a-z, 0-9 and hyphen, a letter\n\
+          first. A figure has 1 to 3 digits and no leading zero, but for 0 itself. A\n\
+          machine has each state in one place, and no place is empty.\n\
+          \n\
+          Bounds: 32768 bytes; 1 to 256 states; 0 to 64 events; 0 to 1024 steps; 1 to 16\n\
+          machines; 1 to 64 places in a machine.\n\
+          \n\
+          A plan can be checked before there is a split: end it with one machine of one\n\
+          place with all states, here (machine (0 1 2 3)). ./split steps then checks the\n\
+          plan, as far as refusal 7; ./split refuses it by 11, as no event is on it yet.\n",
+    );
 }
 
-// Of the text's form and bounds; of the plan; of the split; of the call.
-fn explain_text(refusal: usize) {
-    match refusal {
-        1 => put(
-            b"misformed: line A has not the form of a line that may stand there, or the text has no line A though it must.\n\
-              Write line A as the example in the README has it: one bracketed form, single spaces, byte 10 at its end.\n",
-        ),
-        2 => put(
-            b"oversize: line A breaks a bound, or there is no machine; with A 0 the text has over 32768 bytes.\n\
-              Keep to 32768 bytes, 1 to 256 states, 64 events, 1024 steps, 1 to 16 machines and 64 places in a machine.\n",
-        ),
-        3 => put(
-            b"stranger: line A names a state not below the count, an event not on line 2, or one event twice.\n\
-              Declare the event once on line 2, or correct the state or the event on line A.\n",
-        ),
-        _ => {}
+// The detail with this number, or the letter that stands for it.
+fn put_detail(number: usize, letter: &[u8], details: &[u8]) {
+    let at = word_begin(details, number);
+    let end = word_end(details, at);
+    if at < end {
+        io::write_all(STDOUT_FILENO, &details[at..end]);
+    } else {
+        io::write_all(STDOUT_FILENO, letter);
     }
 }
 
-fn explain_plan(refusal: usize) {
-    match refusal {
-        4 => put(
-            b"standstill: the step on line A ends in the state where it began.\n\
-              Take the step out, or lead it to another state.\n",
-        ),
-        5 => put(
-            b"fork: the step on line A has the same state and the same event as the one on line B.\n\
-              Give one of the two another event, or take one out.\n",
-        ),
-        6 => put(
-            b"idle event: no step has event A.\n\
-              Add a step of event A, or take it off line 2.\n",
-        ),
-        7 => put(
-            b"unreached: no steps lead from state 0 to state A.\n\
-              Add the step that leads there, or take the state out and number the others anew.\n",
-        ),
-        _ => {}
+// Where the next detail stands in the text, or the text ends.
+fn detail_at(text: &[u8], from: usize) -> usize
+    requires { ⌜ from ≤ length (now text) ⌝ }
+    ensures { λ r. ⌜ (from ≤ r) × (r ≤ length (now (text .entry))) ⌝ }
+{
+    let mut at = from;
+    while at < text.len() {
+        if text[at] == b'%' {
+            return at;
+        }
+        if text[at] == b'#' {
+            return at;
+        }
+        at += 1;
     }
+    at
 }
 
-fn explain_split(refusal: usize) {
-    match refusal {
-        8 => put(
-            b"doubled: machine A lists state B twice.\n\
-              List state B only once in machine A.\n",
-        ),
-        9 => put(
-            b"missing: machine A has no place with state B.\n\
-              Put state B into a place of machine A.\n",
-        ),
-        10 => put(
-            b"uneven: a place of machine A is no region: some steps of event B cross its border, and not all alike.\n\
-              Move states between the places of machine A until all steps of event B enter, leave or stay alike.\n",
-        ),
-        11 => put(
-            b"unheld: event A is on no machine, so the machines together never run it.\n\
-              Add a machine in which the steps of event A lead from one place to another.\n",
-        ),
-        12 => put(
-            b"open: in state B the machines are ready for event A, and the plan is not.\n\
-              Add a machine, or divide a place of one, so that state B is outside a place from which event A leaves.\n",
-        ),
-        _ => {}
+// A text with the first detail for each % and the second for each #.
+fn put_filled(text: &[u8], details: &[u8]) {
+    let mut from = 0;
+    while from < text.len() {
+        let at = detail_at(text, from);
+        io::write_all(STDOUT_FILENO, &text[from..at]);
+        if at < text.len() {
+            if text[at] == b'%' {
+                put_detail(1, b"A", details);
+            } else {
+                put_detail(2, b"B", details);
+            }
+        }
+        from = at + 1;
     }
-}
-
-fn explain_call(refusal: usize) {
-    match refusal {
-        13 => put(
-            b"short sheet: what was lent is too short for the answer, which needs size A.\n\
-              Lend A bytes for a sheet, or A records for steps.\n",
-        ),
-        14 => put(
-            b"odd call: the event at position A of the list, counted from 0, is not declared.\n\
-              Give the name of an event of line 2, or a number below the count of events.\n",
-        ),
-        _ => {}
-    }
-}
-
-// What the refusal means and what to do about it, a line each.
-pub fn put_explanation(refusal: usize) {
-    explain_text(refusal);
-    explain_plan(refusal);
-    explain_split(refusal);
-    explain_call(refusal);
 }

@@ -9,8 +9,11 @@ ghost use Rattle.split.specs.Gathered.{Gathers};
 use answering::answer;
 use command_line::Reply;
 use command_line::reply_asked;
+use command_line::word_begin;
 use help::put_explanation;
 use help::put_help;
+use help::put_text_form;
+use help::put_too_many_words;
 use help::put_usage;
 use libc::STDIN_FILENO;
 use libc::STDOUT_FILENO;
@@ -64,24 +67,34 @@ fn read_text(text: &mut [u8]) -> usize
     io::read_full(STDIN_FILENO, text)
 }
 
+// The words are those of a service, so there is an answer (`served`).
 fn serve(words: &mut [u8]) {
     let mut text = [0u8; TEXT_ROOM];
     let n = read_text(&mut text);
     let mut out = [0u8; MAX_TEXT];
     let size = answer(words, &text[..n], &mut out);
-    if size == 0 {
-        put_usage();
-    } else {
-        io::write_all(STDOUT_FILENO, &out[..size]);
-    }
+    io::write_all(STDOUT_FILENO, &out[..size]);
+}
+
+// The word with this number, and those after it.
+fn tell_wrong(words: &[u8], number: usize) {
+    let at = word_begin(words, number);
+    put_usage(number, &words[at..]);
+}
+
+// The details are the third word and the fourth.
+fn explain(words: &[u8], refusal: usize) {
+    let at = word_begin(words, 3);
+    put_explanation(refusal, &words[at..]);
 }
 
 fn respond(words: &mut [u8]) {
     let reply = reply_asked(words);
     match reply {
-        Reply::Usage => put_usage(),
+        Reply::Usage(number) => tell_wrong(words, number),
         Reply::Help => put_help(),
-        Reply::Explanation(refusal) => put_explanation(refusal),
+        Reply::TextForm => put_text_form(),
+        Reply::Explanation(refusal) => explain(words, refusal),
         Reply::Service => serve(words),
     }
 }
@@ -98,7 +111,7 @@ fn respond_to_many(words: usize) {
     let gathered = gather(words, &mut row);
     match gathered {
         Gathered::Words(n) => respond(&mut row[..n]),
-        Gathered::TooLong => put_usage(),
+        Gathered::TooLong => put_too_many_words(),
     }
 }
 

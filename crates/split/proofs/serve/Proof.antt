@@ -24,14 +24,11 @@ slice-aggregate-answer-2 c = search needs
 answer-requires : tie.Need-answer-requires
 answer-requires c κs = search needs
 
-put-usage-requires : tie.Need-put-usage-requires
-put-usage-requires c κs = search needs
-
 array-share-prefix-out : tie.Need-array-share-prefix-out
-array-share-prefix-out c = shown-within (c .before .before .before .before .answer .ensures)
+array-share-prefix-out c = shown-within (c .before .before .before .answer .ensures)
 
 slice-aggregate-write-all : tie.Need-slice-aggregate-write-all
-slice-aggregate-write-all c = sym (length-take-le _ _ (shown-within (c .before .before .before .before .before .answer .ensures)))
+slice-aggregate-write-all c = sym (length-take-le _ _ (shown-within (c .before .before .before .before .answer .ensures)))
 
 write-all-requires : tie.Need-write-all-requires
 write-all-requires c κs = search needs
@@ -41,12 +38,6 @@ same-length c = search needs
 
 returns : tie.Need-returns
 returns c = search needs
-
-same-length-2 : tie.Need-same-length-2
-same-length-2 c = search needs
-
-returns-2 : tie.Need-returns-2
-returns-2 c = search needs
 
 pub serve-spec : {M : Type 1} → statement M
 serve-spec =
@@ -58,11 +49,8 @@ serve-spec =
     slice-aggregate-answer
     slice-aggregate-answer-2
     answer-requires
-    put-usage-requires
     array-share-prefix-out
     slice-aggregate-write-all
     write-all-requires
     same-length
-    returns
-    same-length-2
-    returns-2)
+    returns)

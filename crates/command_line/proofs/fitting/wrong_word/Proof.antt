@@ -1,0 +1,115 @@
+-- `command_line::fitting::wrong_word` meets its contract: each turn passes a word that fits. The laws are in `Judging`.
+use Prim.Native.Nat.{_-_}
+use borrow.Author.Needs.{needs}
+use denote.Ref.{now}
+use lib.ListN.{length}
+use Rattle.command_line.proofs.Judging.{Fitted, fitted-start, unfit, fitted-more, one-missing, all-fit, first-wrong, wrong-behind}
+use Rattle.command_line.proofs.fitting.wrong_word.Statement.{statement}
+use Rattle.command_line.proofs.fitting.wrong_word.Tie as tie
+
+abbrev Inv-loop : tie.InvT-loop
+Inv-loop words asked k₀ at₀ k at = Fitted asked words k at
+
+abbrev μ-loop : tie.MeasureT-loop
+μ-loop words asked k₀ at₀ k at = length words - at
+
+service-asked-requires : tie.Need-service-asked-requires Inv-loop μ-loop
+service-asked-requires c κs = search needs
+
+enum-told : tie.Need-enum-told Inv-loop μ-loop
+enum-told c = search needs
+
+returns : tie.Need-returns Inv-loop μ-loop
+returns c = first-wrong (now (c .before .before .before .before .args .words)) (c .before .before .service-asked .ensures) (c .enum-told .given .1)
+
+second-word-requires : tie.Need-second-word-requires Inv-loop μ-loop
+second-word-requires c κs = search needs
+
+loop-holds : tie.Need-loop-holds Inv-loop μ-loop
+loop-holds c = fitted-start (c .second-word .ensures .0) (c .second-word .ensures .1)
+
+word-end-requires : tie.Need-word-end-requires Inv-loop μ-loop
+word-end-requires c κs = search needs
+
+sub-fits : tie.Need-sub-fits Inv-loop μ-loop
+sub-fits c = search needs
+
+part-fits-start : tie.Need-part-fits-start Inv-loop μ-loop
+part-fits-start c = search needs
+
+part-fits-end : tie.Need-part-fits-end Inv-loop μ-loop
+part-fits-end c = search needs
+
+fits-requires : tie.Need-fits-requires Inv-loop μ-loop
+fits-requires c κs = search needs
+
+add-result : tie.Need-add-result Inv-loop μ-loop
+add-result c = search needs
+
+returns-2 : tie.Need-returns-2 Inv-loop μ-loop
+returns-2 c =
+    let turn = c .before .before .before .before .before in
+    let asked = turn .before .before .before in
+    wrong-behind (now (asked .before .before .args .words)) (asked .service-asked .ensures) (turn .before .before .match .keys2)
+    (unfit (turn .loop .inv) (c .before .before .before .before .loop-test .taken) (c .before .before .before .word-end .ensures) (c .before .fits2 .ensures) (c .if1 .taken))
+
+add-k : tie.Need-add-k Inv-loop μ-loop
+add-k c = search needs
+
+add-at : tie.Need-add-at Inv-loop μ-loop
+add-at c = search needs
+
+loop-less : tie.Need-loop-less Inv-loop μ-loop
+loop-less c = search needs
+
+loop-again : tie.Need-loop-again Inv-loop μ-loop
+loop-again c =
+    fitted-more (c .before .before .before .before .before .loop .inv) (c .before .before .before .before .loop-test .taken)
+    (c .before .before .before .word-end .ensures) (c .before .fits2 .ensures) (c .if1 .left)
+
+least-words-requires : tie.Need-least-words-requires Inv-loop μ-loop
+least-words-requires c κs = search needs
+
+add-result-2 : tie.Need-add-result-2 Inv-loop μ-loop
+add-result-2 c = search needs
+
+returns-3 : tie.Need-returns-3 Inv-loop μ-loop
+returns-3 c =
+    let turn = c .before .before .before in
+    let asked = turn .before .before .before in
+    wrong-behind (now (asked .before .before .args .words)) (asked .service-asked .ensures) (turn .before .before .match .keys2)
+    (one-missing (turn .loop .inv) (c .before .before .loop-test .left) (c .before .least-words .ensures) (c .if2 .taken))
+
+returns-4 : tie.Need-returns-4 Inv-loop μ-loop
+returns-4 c =
+    let turn = c .before .before .before in
+    let asked = turn .before .before .before in
+    wrong-behind (now (asked .before .before .args .words)) (asked .service-asked .ensures) (turn .before .before .match .keys2)
+    (all-fit (turn .loop .inv) (c .before .before .loop-test .left) (c .before .least-words .ensures) (c .if2 .left))
+
+pub wrong-word-spec : {M : Type 1} → statement M
+wrong-word-spec =
+    tie.close
+    (tie.spec
+    Inv-loop
+    μ-loop
+    service-asked-requires
+    enum-told
+    returns
+    second-word-requires
+    loop-holds
+    word-end-requires
+    sub-fits
+    part-fits-start
+    part-fits-end
+    fits-requires
+    add-result
+    returns-2
+    add-k
+    add-at
+    loop-less
+    loop-again
+    least-words-requires
+    add-result-2
+    returns-3
+    returns-4)
