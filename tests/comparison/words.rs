@@ -18,8 +18,15 @@ const NO_EVENTS: &[u8] = b"-1|+1|007|00|01|1.5|0x1|1e3|9x|-|-a|Ready|rEADY|readY
 /// Too few words, too many, or not those of any service.
 const NO_CALLS: &str =
     "name|name 0 1|name ready ready|check 5 6|check 300 0|check ready|steps 5 6|steps 5 5|steps ready|\
-    thin 0|thin ready|help 1|help run|explain|explain 0|explain 15|explain 01|explain x|explain 1x|explain -1|\
-    explain 1 2|explain misformed|Check|checks|chec|sheet|merge 5|ready|0| check|check 0 | check 0|";
+    thin 0|thin ready|help 1|help run|help Text|help text text|explain|explain 0|explain 15|explain 01|explain x|\
+    explain 1x|explain -1|explain Open|explain idle event|explain 1 x|explain open 1 2 3|explain 12 0 02|Check|checks|\
+    chec|sheet|merge 5|ready|0| check|check 0 | check 0|";
+
+/// The refusals of document 01 by their word, the first of two; the first has number 1.
+const REFUSALS: [&str; 14] = [
+    "misformed", "oversize", "stranger", "standstill", "fork", "idle", "unreached", "doubled", "missing", "uneven",
+    "unheld", "open", "short", "odd",
+];
 
 /// Accepted, refused early or late, empty, too long, and not ended: no text makes a difference.
 fn texts() -> Vec<Vec<u8>> {
@@ -47,10 +54,48 @@ fn wrong_words() -> Vec<Vec<OsString>> {
     lists
 }
 
-/// Nothing on standard output, and one line on standard error.
-fn is_usage(done: &Output) -> bool {
+fn is_figure(word: &[u8]) -> bool {
+    word == b"0" || word.first().is_some_and(|b| *b != b'0') && word.iter().all(u8::is_ascii_digit)
+}
+
+fn is_event(word: &[u8]) -> bool {
+    let name = |b: &u8| b.is_ascii_lowercase() || b.is_ascii_digit() || *b == b'-';
+    is_figure(word)
+        || (1..=16).contains(&word.len()) && word[0].is_ascii_lowercase() && word.iter().all(name)
+}
+
+fn is_refusal(word: &[u8]) -> bool {
+    (1..=14).any(|n: usize| word == n.to_string().as_bytes() || word == REFUSALS[n - 1].as_bytes())
+}
+
+/// The first word that is wrong, counted from 1, or that is missing. The program reads one over 4,096 bytes as empty.
+fn wrong(words: &[OsString]) -> usize {
+    let words: Vec<&[u8]> = words.iter().map(|word| word.as_bytes()).collect();
+    let fits: &dyn Fn(usize, &[u8]) -> bool = match words[0] {
+        b"check" | b"steps" => &|k, word| k == 1 && is_figure(word),
+        b"name" => &|k, word| k == 1 && is_event(word),
+        b"run" => &|_, word| is_event(word),
+        b"thin" => &|_, _| false,
+        b"help" => &|k, word| k == 1 && word == b"text",
+        b"explain" => &|k, word| if k == 1 { is_refusal(word) } else { k < 4 && is_figure(word) },
+        _ => return 1,
+    };
+    let first = (1..words.len()).find(|&k| !fits(k, words[k]));
+    first.unwrap_or(words.len()) + 1
+}
+
+/// Nothing on standard output, and one line on standard error, with the wrong word if it can be shown.
+fn is_usage(words: &[OsString], done: &Output) -> bool {
+    let number = wrong(words);
+    let said = match words.get(number - 1).map(|word| word.as_bytes()) {
+        None => format!("split: word {number} is missing; usage: "),
+        Some(word) if (1..=40).contains(&word.len()) && word.iter().all(u8::is_ascii_graphic) => {
+            format!("split: word {number} is wrong: {}; usage: ", String::from_utf8_lossy(word))
+        }
+        Some(_) => format!("split: word {number} is wrong; usage: "),
+    };
     let lines = done.stderr.split_inclusive(|b| *b == b'\n').count();
-    let one = lines == 1 && done.stderr.ends_with(b"\n") && done.stderr.starts_with(b"usage: ");
+    let one = lines == 1 && done.stderr.ends_with(b"\n") && done.stderr.starts_with(said.as_bytes());
     done.stdout.is_empty() && one && done.status.code().is_some()
 }
 
@@ -61,6 +106,11 @@ fn is_text(done: &Output, lines: std::ops::RangeInclusive<usize>) -> bool {
     whole && lines.contains(&count) && done.stderr.is_empty() && done.status.success()
 }
 
+fn is_screen(done: &Output) -> bool {
+    let narrow = String::from_utf8_lossy(&done.stdout).lines().all(|line| line.chars().count() <= 80);
+    is_text(done, 1..=24) && narrow
+}
+
 /// A screen of it, with every service and every refusal.
 fn is_help(done: &Output) -> bool {
     let help = String::from_utf8_lossy(&done.stdout);
@@ -68,8 +118,19 @@ fn is_help(done: &Output) -> bool {
     let numbers = (1..=14).map(|n| n.to_string());
     let named =
         ["check", "steps", "name", "run", "thin", "help", "explain"].map(String::from).into_iter().chain(numbers);
-    let narrow = help.lines().all(|line| line.chars().count() <= 80);
-    is_text(done, 1..=24) && narrow && named.into_iter().all(|word| words.contains(word.as_str()))
+    is_screen(done) && named.into_iter().all(|word| words.contains(word.as_str()))
+}
+
+/// Of the refusal with this number, with these details in place of A and B.
+fn is_explanation(number: usize, details: &[&str], done: &Output) -> bool {
+    let text = String::from_utf8_lossy(&done.stdout);
+    let words: BTreeSet<&str> = text.split(|c: char| !c.is_ascii_alphanumeric()).collect();
+    let takes = if [5, 8, 9, 10, 12].contains(&number) { 2 } else { 1 };
+    let filled = ["A", "B"].into_iter().take(takes).enumerate().all(|(k, letter)| match details.get(k) {
+        Some(detail) => words.contains(detail) && !words.contains(letter),
+        None => words.contains(letter),
+    });
+    is_text(done, 2..=8) && text.starts_with(REFUSALS[number - 1]) && filled && !text.contains(['%', '#'])
 }
 
 /// The program with all of these words.
@@ -79,20 +140,22 @@ pub fn compare(program: &Program, watchdog: &Watchdog, report: &Report) {
         let text = &texts[turn % texts.len()];
         let done = program.call(words, &[text.clone()], watchdog);
         report.words(words, text, due, &done, is(&done));
-        done.stdout
     };
     for (k, words) in wrong_words().iter().enumerate() {
         for turn in [k, k + 3] {
-            held(words, turn, "one line on standard error that begins with usage", &is_usage);
+            held(words, turn, "one line on standard error that says the wrong word", &|done| is_usage(words, done));
         }
     }
     for turn in 0..texts.len() {
         held(&parted("help"), turn, "at most 24 lines of 80 columns with every service and 1 to 14", &is_help);
+        held(&parted("help text"), turn, "at most 24 lines of 80 columns", &|done| is_screen(done));
     }
-    let mut seen = BTreeSet::new();
     for number in 1..=14 {
-        let is_new = |done: &Output| is_text(done, 2..=2) && !seen.contains(&done.stdout);
-        let explained = held(&parted(&format!("explain {number}")), number, "two lines, and no other's", &is_new);
-        seen.insert(explained);
+        for said in [number.to_string(), REFUSALS[number - 1].to_string()] {
+            for details in [&[][..], &["70"], &["70", "90"]] {
+                let words = parted(&[&["explain", &said], details].concat().join(" "));
+                held(&words, number, "an explanation with its details", &|done| is_explanation(number, details, done));
+            }
+        }
     }
 }
