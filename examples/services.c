@@ -1,4 +1,4 @@
-/* All five services of the proved library on the text on standard input, from C. examples/again builds and runs it. */
+/* All five services of the proved library on the text on standard input, from C or C++. examples/again builds and runs it. */
 #include "split.h"
 #include <stdio.h>
 
@@ -8,14 +8,14 @@ static struct split_step steps[1024];
 
 static int refused(size_t number, size_t detail, size_t second)
 {
-    if (number != 0)
+    if (number != SPLIT_ANSWERED)
         printf("(refused %zu %zu %zu)\n", number, detail, second);
-    return number != 0;
+    return number != SPLIT_ANSWERED;
 }
 
 static void print_run(size_t len, const uint8_t *events, size_t count)
 {
-    struct split_run r = split_run(text, len, events, count);
+    struct split_run_answer r = split_run(text, len, events, count);
     if (refused(r.number, r.detail, r.second))
         return;
     if (r.blocked)
@@ -35,7 +35,7 @@ int main(void)
 
     struct split_answer listed = split_steps(text, len, steps, 1024);
     for (size_t i = 0; i < listed.size; i++) {
-        struct split_name name = split_name(text, len, steps[i].event);
+        struct split_part name = split_name(text, len, steps[i].event);
         printf("%d -%.*s-> %d\n", steps[i].source, (int)name.size, (const char *)text + name.from, steps[i].target);
     }
 

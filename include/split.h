@@ -1,16 +1,40 @@
-/* The splitter's five services, proved: each answers and writes what crates/split_c/src/lib.rt promises, for any bytes.
+/* The splitter's five services, proved: each answers and writes what crates/split_c/src/lib.rt
+ * promises, for any bytes. For C11 and C++11, and later; include/split.rs has the same for Rust.
  *
- *     rt staticlib split_c                                      writes target/staticlib/libsplit_c.a
- *     cc -I include program.c target/staticlib/libsplit_c.a     x86-64 Linux
+ * To link, on x86-64 Linux (with -Wl,--gc-sections what is not called is left out):
  *
- * A slice is passed as a pointer and a length. If the length is 0 nothing is read or written through the pointer, and it may be
- * null: an empty text is refused as misformed (1, line 1); a list of no events runs to its end, if the text passes; an output of
- * length 0 is refused by 13 with the size needed, which is a way to ask for it (a plan without steps needs none). A null pointer with
- * another length is not allowed. What is lent for output must overlap nothing else that is passed. A call keeps no state and may run in several threads at
- * once. It takes no memory but its stack: split_thin 95 KB, as measured, the others less.
+ *     rt staticlib split_c                                  writes target/staticlib/libsplit_c.a
+ *     cc -I include program.c target/staticlib/libsplit_c.a
  *
- * number is 0 and the answer is in the other fields, or number is that of the table in README.md (1 to 14), detail and second are
- * its two details, the other fields are 0 and no lent byte is changed. Fields that are not in use are 0. */
+ * What it needs: memcpy and memset, and nothing else. With these two given it links under
+ * -ffreestanding -nostdlib. It has no data and no bss, takes no heap and makes no system call. It
+ * is code for x86-64 only (System V calls, SSE2, red zone): for the host that plans, not yet for a
+ * board. In bytes, at most:
+ *
+ *                     code     stack
+ *     split_check   16,384    61,440
+ *     split_steps    8,192    25,600
+ *     split_name     8,192    22,528
+ *     split_run     15,360    61,440
+ *     split_thin    15,360    92,160
+ *     all five      22,528    92,160
+ *
+ * Both are measured, not proved, and rounded up; tests/library/check measures again. Code is what
+ * the library adds to a program that calls this service only, linked with --gc-sections, its
+ * constants included. Stack is how far down a call wrote into a stack filled with a pattern, on the
+ * texts of examples/ and bench/texts, whole and cut short. What a signal or an interrupt takes
+ * comes on top.
+ *
+ * What a call takes: a slice is passed as a pointer and a length. If the length is 0 nothing is
+ * read or written through the pointer, and it may be null: an empty text is refused as misformed
+ * (1, line 1); a list of no events runs to its end, if the text passes; an output of length 0 is
+ * refused by 13 with the size needed, which is a way to ask for it (a plan without steps needs
+ * none). A null pointer with another length is not allowed. What is lent for output must overlap
+ * nothing else that is passed. A call keeps no state and may run in several threads at once.
+ *
+ * What a call leaves: number is SPLIT_ANSWERED and the answer is in the other fields; or number is
+ * another of enum split_refusal, detail and second are its two details, the other fields are 0 and
+ * no lent byte is changed. Fields that are not in use are 0. */
 #ifndef SPLIT_H
 #define SPLIT_H
 
@@ -20,6 +44,25 @@
 #ifdef __cplusplus
 extern "C" {
 #endif
+
+/* What number says. Beside each stand detail and second, then what is wrong. */
+enum split_refusal {
+    SPLIT_ANSWERED = 0,     /* 0, 0: not refused */
+    SPLIT_MISFORMED = 1,    /* line, 0: it breaks the text's form, or line 1 or 2 is missing */
+    SPLIT_OVERSIZE = 2,     /* line, 0: it breaks a bound; 0, 0: the text is over 32,768 bytes */
+    SPLIT_STRANGER = 3,     /* line, 0: an undeclared state or event, or an event declared twice */
+    SPLIT_STANDSTILL = 4,   /* line, 0: the step ends where it began */
+    SPLIT_FORK = 5,         /* line, earlier line: both steps have the same state and event */
+    SPLIT_IDLE_EVENT = 6,   /* event, 0: it has no step */
+    SPLIT_UNREACHED = 7,    /* state, 0: it is not reached from the start */
+    SPLIT_DOUBLED = 8,      /* machine, state: the machine lists the state twice */
+    SPLIT_MISSING = 9,      /* machine, state: the state is in no place of the machine */
+    SPLIT_UNEVEN = 10,      /* machine, event: a place is no region, as the event's steps show */
+    SPLIT_UNHELD = 11,      /* event, 0: it is on no machine */
+    SPLIT_OPEN = 12,        /* event, state: the machines would run the event there, not the plan */
+    SPLIT_SHORT_SHEET = 13, /* size needed, 0: what is lent for output is too short */
+    SPLIT_ODD_CALL = 14     /* position, 0: the event number there is not declared */
+};
 
 /* A step of the plan: from-state, event number, to-state. */
 struct split_step {
@@ -31,40 +74,82 @@ struct split_answer {
     size_t size; /* how many bytes or steps are written */
 };
 
-struct split_name {
+struct split_part {
     size_t number, detail, second;
     size_t from, size; /* the name is text[from] to text[from + size - 1] */
 };
 
-struct split_run {
+struct split_run_answer {
     size_t number, detail, second;
     size_t blocked;      /* 0: the list ran to its end; 1: a machine blocked */
-    size_t ran, machine; /* if blocked: how many events ran, and the lowest machine that blocked the next */
+    size_t ran, machine; /* if blocked: how many events ran, and the lowest machine that blocked */
     uint8_t places[16];  /* where each machine then stands */
 };
 
 struct split_set {
     size_t number, detail, second;
-    size_t machines, size; /* the machines that are kept, bit i for machine i, and how many they are */
+    size_t machines, size; /* the kept machines, bit i for machine i, and how many they are */
 };
 
-/* Check and sheet: the sheet into the first bytes of out. 32,768 bytes always suffice; 13 has the size needed. */
+/* Check and sheet: the sheet into the first bytes of out. 32,768 always suffice; 13 has the size
+ * needed. */
 struct split_answer split_check(const uint8_t *text, size_t text_len, uint8_t *out, size_t out_len);
 
-/* The plan's steps, in line order, into the first entries of out. 1,024 always suffice; 13 has the count needed. */
-struct split_answer split_steps(const uint8_t *text, size_t text_len, struct split_step *out, size_t out_len);
+/* The plan's steps, in line order, into the first entries of out. 1,024 always suffice; 13 has the
+ * count needed. */
+struct split_answer split_steps(const uint8_t *text, size_t text_len, struct split_step *out,
+                                size_t out_len);
 
-/* Where the name of an event stands in the text. */
-struct split_name split_name(const uint8_t *text, size_t text_len, size_t event);
+/* Where the name of an event stands in the text. 14 has position 0. */
+struct split_part split_name(const uint8_t *text, size_t text_len, size_t event);
 
-/* Runs a list of event numbers, a byte each, on the machines together. 14 has the position of the first that is not declared. */
-struct split_run split_run(const uint8_t *text, size_t text_len, const uint8_t *events, size_t events_len);
+/* Runs a list of event numbers, a byte each, on the machines together. 14 has the position of the
+ * first that is not declared. */
+struct split_run_answer split_run(const uint8_t *text, size_t text_len, const uint8_t *events,
+                                  size_t events_len);
 
 /* Drops machines that add nothing, from the highest to the lowest. */
 struct split_set split_thin(const uint8_t *text, size_t text_len);
 
 #ifdef __cplusplus
 }
+#define SPLIT_ASSERT(layout) static_assert(layout, "the library is built for x86-64")
+#else
+#define SPLIT_ASSERT(layout) _Static_assert(layout, "the library is built for x86-64")
 #endif
+
+/* The layout that the library has, #[repr(C)]: a compiler for anything else stops here. */
+#define SPLIT_AT(name, field, place) SPLIT_ASSERT(offsetof(struct name, field) == (place))
+#define SPLIT_REFUSAL_FIRST(name) \
+    SPLIT_AT(name, number, 0);    \
+    SPLIT_AT(name, detail, 8);    \
+    SPLIT_AT(name, second, 16)
+
+SPLIT_ASSERT(sizeof(size_t) == 8);
+SPLIT_ASSERT(sizeof(struct split_step) == 3);
+SPLIT_AT(split_step, source, 0);
+SPLIT_AT(split_step, event, 1);
+SPLIT_AT(split_step, target, 2);
+SPLIT_ASSERT(sizeof(struct split_answer) == 32);
+SPLIT_REFUSAL_FIRST(split_answer);
+SPLIT_AT(split_answer, size, 24);
+SPLIT_ASSERT(sizeof(struct split_part) == 40);
+SPLIT_REFUSAL_FIRST(split_part);
+SPLIT_AT(split_part, from, 24);
+SPLIT_AT(split_part, size, 32);
+SPLIT_ASSERT(sizeof(struct split_run_answer) == 64);
+SPLIT_REFUSAL_FIRST(split_run_answer);
+SPLIT_AT(split_run_answer, blocked, 24);
+SPLIT_AT(split_run_answer, ran, 32);
+SPLIT_AT(split_run_answer, machine, 40);
+SPLIT_AT(split_run_answer, places, 48);
+SPLIT_ASSERT(sizeof(struct split_set) == 40);
+SPLIT_REFUSAL_FIRST(split_set);
+SPLIT_AT(split_set, machines, 24);
+SPLIT_AT(split_set, size, 32);
+
+#undef SPLIT_REFUSAL_FIRST
+#undef SPLIT_AT
+#undef SPLIT_ASSERT
 
 #endif
