@@ -2,14 +2,13 @@
 use std::io::{self, Read, Write};
 
 #[path = "../include/split.rs"]
-#[allow(dead_code)]
 mod split;
 
 fn print_run(text: &[u8], events: &[u8]) {
     let r = split::run(text, events);
     match (r.number, r.blocked) {
-        (0, 0) => print!("the list runs to its end;"),
-        (0, _) => print!("machine {} blocks after {} events;", r.machine, r.ran),
+        (split::ANSWERED, 0) => print!("the list runs to its end;"),
+        (split::ANSWERED, _) => print!("machine {} blocks after {} events;", r.machine, r.ran),
         (number, _) => return println!("(refused {number} {} {})", r.detail, r.second),
     }
     println!(" machines 0 and 1 stand in {} and {}", r.places[0], r.places[1]);
@@ -21,7 +20,7 @@ fn main() -> io::Result<()> {
     io::stdin().take(32_769).read_to_end(&mut text)?;
     let mut sheet = [0; 32_768];
     let checked = split::check(&text, &mut sheet);
-    if checked.number != 0 {
+    if checked.number != split::ANSWERED {
         println!("(refused {} {} {})", checked.number, checked.detail, checked.second);
         std::process::exit(1);
     }

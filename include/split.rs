@@ -5,7 +5,28 @@
 //!
 //!     rustc -L target/staticlib -l static=split_c program.rs
 //!
-//! split.h says what each field means. Nothing checks these declarations against the library, so they stand here once for all Rust programs.
+//! It uses `core` alone, in any edition, from rustc 1.82 on. split.h says what each field means and what the library needs; `Name` is its `split_part`,
+//! `Run` its `split_run_answer`. No compiler holds these declarations to the library, so they stand here once; tests/comparison calls each of them.
+
+// A program need not call all of it.
+#![allow(dead_code)]
+
+/// What `number` says: the answer stands, or why the call is refused.
+pub const ANSWERED: usize = 0;
+pub const MISFORMED: usize = 1;
+pub const OVERSIZE: usize = 2;
+pub const STRANGER: usize = 3;
+pub const STANDSTILL: usize = 4;
+pub const FORK: usize = 5;
+pub const IDLE_EVENT: usize = 6;
+pub const UNREACHED: usize = 7;
+pub const DOUBLED: usize = 8;
+pub const MISSING: usize = 9;
+pub const UNEVEN: usize = 10;
+pub const UNHELD: usize = 11;
+pub const OPEN: usize = 12;
+pub const SHORT_SHEET: usize = 13;
+pub const ODD_CALL: usize = 14;
 
 #[repr(C)]
 #[derive(Clone, Copy, Debug, Default, PartialEq)]
@@ -56,7 +77,19 @@ pub struct Set {
     pub size: usize,
 }
 
-extern "C" {
+// The layout of the library, as split.h asserts it too.
+macro_rules! layout {
+    ($name:ident has $size:literal bytes, $($field:ident $place:literal),+) => {
+        const _: () = assert!(core::mem::size_of::<$name>() == $size $(&& core::mem::offset_of!($name, $field) == $place)+);
+    };
+}
+layout!(Step has 3 bytes, source 0, event 1, target 2);
+layout!(Answer has 32 bytes, number 0, detail 8, second 16, size 24);
+layout!(Name has 40 bytes, number 0, detail 8, second 16, from 24, size 32);
+layout!(Run has 64 bytes, number 0, detail 8, second 16, blocked 24, ran 32, machine 40, places 48);
+layout!(Set has 40 bytes, number 0, detail 8, second 16, machines 24, size 32);
+
+unsafe extern "C" {
     pub fn split_check(text: *const u8, text_len: usize, out: *mut u8, out_len: usize) -> Answer;
     pub fn split_steps(text: *const u8, text_len: usize, out: *mut Step, out_len: usize) -> Answer;
     pub fn split_name(text: *const u8, text_len: usize, event: usize) -> Name;
