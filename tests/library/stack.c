@@ -1,0 +1,91 @@
+/* Prints the most stack that each service took on the texts that are named: its call runs on a stack that is filled with
+ * a pattern, and what lies above the lowest byte that changed is counted, with the caller's frame and the arguments. */
+#define _XOPEN_SOURCE 700
+#include "split.h"
+#include <stdio.h>
+#include <string.h>
+#include <ucontext.h>
+
+enum { AREA = 1 << 18, PATTERN = 0xa5 };
+
+static uint8_t area[AREA], text[32769], sheet[32768];
+static struct split_step steps[1024];
+static const uint8_t events[] = {0, 0, 255};
+static size_t length;
+static ucontext_t outside, inside;
+
+/* Each service as far as it can come, and refused by the call's own refusal, 13 or 14. */
+static void check_lent(void) { split_check(text, length, sheet, sizeof sheet); }
+static void check_unlent(void) { split_check(text, length, NULL, 0); }
+static void steps_lent(void) { split_steps(text, length, steps, 1024); }
+static void steps_unlent(void) { split_steps(text, length, NULL, 0); }
+static void name_first(void) { split_name(text, length, 0); }
+static void name_odd(void) { split_name(text, length, 64); }
+static void run_some(void) { split_run(text, length, events, 2); }
+static void run_odd(void) { split_run(text, length, events, 3); }
+static void thin(void) { split_thin(text, length); }
+
+static struct {
+    const char *service;
+    void (*call)(void);
+    size_t most;
+} calls[] = {
+    {"split_check", check_lent, 0}, {"split_check", check_unlent, 0}, {"split_steps", steps_lent, 0},
+    {"split_steps", steps_unlent, 0}, {"split_name", name_first, 0}, {"split_name", name_odd, 0},
+    {"split_run", run_some, 0}, {"split_run", run_odd, 0}, {"split_thin", thin, 0},
+};
+
+enum { CALLS = sizeof calls / sizeof calls[0] };
+
+static size_t taken(void (*call)(void))
+{
+    memset(area, PATTERN, AREA);
+    getcontext(&inside);
+    inside.uc_stack.ss_sp = area;
+    inside.uc_stack.ss_size = AREA;
+    inside.uc_link = &outside;
+    makecontext(&inside, call, 0);
+    swapcontext(&outside, &inside);
+    size_t kept = 0;
+    while (kept < AREA && area[kept] == PATTERN)
+        kept++;
+    return AREA - kept;
+}
+
+static void measure(size_t given)
+{
+    length = given;
+    for (int i = 0; i < CALLS; i++) {
+        size_t now = taken(calls[i].call);
+        if (now > calls[i].most)
+            calls[i].most = now;
+    }
+}
+
+/* The text; the same refused as misformed; and with a machine less, which may be refused by 11, 12 or for want of one. */
+static int measure_file(const char *path)
+{
+    FILE *file = fopen(path, "rb");
+    if (file == NULL) {
+        perror(path);
+        return 1;
+    }
+    size_t size = fread(text, 1, sizeof text, file);
+    fclose(file);
+    measure(size);
+    measure(size > 0 ? size - 1 : 0);
+    while (size > 1 && text[size - 2] != '\n')
+        size--;
+    measure(size > 0 ? size - 1 : 0);
+    return 0;
+}
+
+int main(int count, char **paths)
+{
+    for (int i = 1; i < count; i++)
+        if (measure_file(paths[i]) != 0)
+            return 1;
+    for (int i = 0; i < CALLS; i++)
+        printf("%s %zu\n", calls[i].service, calls[i].most);
+    return 0;
+}
