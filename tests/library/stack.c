@@ -27,15 +27,15 @@ static void thin(void) { split_thin(text, length); }
 
 static struct {
     const char *service;
-    void (*call)(void);
+    void (*calls[2])(void);
     size_t most;
-} calls[] = {
-    {"split_check", check_lent, 0}, {"split_check", check_unlent, 0}, {"split_steps", steps_lent, 0},
-    {"split_steps", steps_unlent, 0}, {"split_name", name_first, 0}, {"split_name", name_odd, 0},
-    {"split_run", run_some, 0}, {"split_run", run_odd, 0}, {"split_thin", thin, 0},
+} services[] = {
+    {"split_check", {check_lent, check_unlent}, 0}, {"split_steps", {steps_lent, steps_unlent}, 0},
+    {"split_name", {name_first, name_odd}, 0},      {"split_run", {run_some, run_odd}, 0},
+    {"split_thin", {thin, thin}, 0},
 };
 
-enum { CALLS = sizeof calls / sizeof calls[0] };
+enum { SERVICES = sizeof services / sizeof services[0] };
 
 static size_t taken(void (*call)(void))
 {
@@ -55,10 +55,10 @@ static size_t taken(void (*call)(void))
 static void measure(size_t given)
 {
     length = given;
-    for (int i = 0; i < CALLS; i++) {
-        size_t now = taken(calls[i].call);
-        if (now > calls[i].most)
-            calls[i].most = now;
+    for (int i = 0; i < 2 * SERVICES; i++) {
+        size_t now = taken(services[i / 2].calls[i % 2]);
+        if (now > services[i / 2].most)
+            services[i / 2].most = now;
     }
 }
 
@@ -85,7 +85,7 @@ int main(int count, char **paths)
     for (int i = 1; i < count; i++)
         if (measure_file(paths[i]) != 0)
             return 1;
-    for (int i = 0; i < CALLS; i++)
-        printf("%s %zu\n", calls[i].service, calls[i].most);
+    for (int i = 0; i < SERVICES; i++)
+        printf("%s %zu\n", services[i].service, services[i].most);
     return 0;
 }
