@@ -1,0 +1,123 @@
+//! Positions from graphviz's `dot`, asked for its plain output, so that the picture's style and marks stay our own.
+use crate::geometry::{Curve, Point};
+use crate::graph::Graph;
+use crate::layout::Spots;
+use std::fmt::Write as _;
+use std::io::{Read, Write};
+use std::process::{Child, Command, Stdio};
+use std::time::{Duration, Instant};
+
+/// Plans of more states are laid out by `dot`.
+pub const FROM: usize = 24;
+/// With more arrows `dot` would take minutes to find room for labels; ours are then put on its lines.
+const LABELLED: usize = 160;
+const PATIENCE: Duration = Duration::from_secs(20);
+/// `dot` counts in inches.
+const INCH: f64 = 72.0;
+
+/// The limits keep its search short on large plans.
+const HEAD: &str = "digraph plan {
+rankdir=LR; nodesep=0.35; nslimit=1; nslimit1=1; mclimit=0.2;
+node [shape=circle fixedsize=true width=0.56 label=\"\"];
+edge [fontname=Helvetica fontsize=15 arrowsize=0.8];
+start [width=0.3];
+start -> 0;
+";
+
+/// A label is as many letters as the event's name has, since only its width counts. Loops are drawn without `dot`.
+fn question(graph: &Graph) -> String {
+    let mut question = HEAD.to_string();
+    (0..graph.nodes.len()).for_each(|node| _ = writeln!(question, "{node};"));
+    for arrow in graph.arrows.iter().filter(|arrow| arrow.from != arrow.to) {
+        let label = if graph.arrows.len() > LABELLED { String::new() } else { "o".repeat(arrow.event.len()) };
+        _ = writeln!(question, "{} -> {} [label=\"{label}\"];", arrow.from, arrow.to);
+    }
+    question + "}\n"
+}
+
+/// Whether the child ends by itself in time; otherwise it is ended.
+fn ends_in_time(child: &mut Child) -> bool {
+    let until = Instant::now() + PATIENCE;
+    while Instant::now() < until {
+        match child.try_wait() {
+            Ok(Some(status)) => return status.success(),
+            Ok(None) => std::thread::sleep(Duration::from_millis(10)),
+            Err(_) => break,
+        }
+    }
+    _ = child.kill();
+    _ = child.wait();
+    false
+}
+
+fn answer(question: &str) -> Result<String, &'static str> {
+    let mut command = Command::new("dot");
+    command.arg("-Tplain").env("LC_ALL", "C").stdin(Stdio::piped()).stdout(Stdio::piped()).stderr(Stdio::null());
+    let missing = "graphviz's dot is not there; with it a large plan is easier to read (Debian: apt-get install graphviz)";
+    let mut child = command.spawn().map_err(|_| missing)?;
+    let mut input = child.stdin.take().ok_or("dot takes no input")?;
+    let mut output = child.stdout.take().ok_or("dot gives no output")?;
+    let reader = std::thread::spawn(move || {
+        let mut answer = String::new();
+        output.read_to_string(&mut answer).map(|_| answer)
+    });
+    _ = input.write_all(question.as_bytes());
+    drop(input);
+    if !ends_in_time(&mut child) {
+        return Err("dot gave no layout in time");
+    }
+    reader.join().ok().and_then(Result::ok).ok_or("dot's answer cannot be read")
+}
+
+fn point(x: &str, y: &str) -> Option<Point> {
+    Some(Point { x: x.parse::<f64>().ok()? * INCH, y: -y.parse::<f64>().ok()? * INCH })
+}
+
+/// A line `edge TAIL HEAD COUNT X Y ..`, then label and its X Y if there is one, then style and colour. The label is
+/// lifted off the line by nothing: it stands where `dot` left room.
+fn edge(words: &[&str]) -> Option<(Curve, Option<Point>)> {
+    let count: usize = words.first()?.parse().ok()?;
+    let rest = words.get(1..)?;
+    let points: Option<Vec<Point>> = rest.get(..2 * count)?.chunks(2).map(|pair| point(pair[0], pair[1])).collect();
+    let label = match rest.get(2 * count..)? {
+        [_, x, y, _, _] => point(x, y),
+        _ => None,
+    };
+    let points = points.filter(|points| points.len() >= 4 && points.len() % 3 == 1)?;
+    Some((Curve::Pieces(points), label))
+}
+
+/// Gives an edge to the first arrow between these nodes that has none. `dot` ends it where its own head would begin.
+fn give(spots: &mut Spots, graph: &Graph, words: &[&str]) -> Option<()> {
+    let (tail, head): (usize, usize) = (words.get(1)?.parse().ok()?, words.get(2)?.parse().ok()?);
+    let is_it = |index: &usize| (graph.arrows[*index].from, graph.arrows[*index].to) == (tail, head) && spots.found[*index].is_none();
+    let index = (0..graph.arrows.len()).find(is_it)?;
+    spots.found[index] = Some(edge(&words[3..])?);
+    Some(())
+}
+
+fn read(answer: &str, graph: &Graph) -> Option<Spots> {
+    let mut places = vec![None; graph.nodes.len()];
+    let mut spots = Spots { spots: vec![], lean: vec![0.0; graph.arrows.len()], found: graph.arrows.iter().map(|_| None).collect() };
+    for line in answer.lines() {
+        let words: Vec<&str> = line.split_whitespace().collect();
+        match words[..] {
+            ["node", name, x, y, ..] => {
+                if let Some(place) = name.parse().ok().and_then(|node: usize| places.get_mut(node)) {
+                    *place = point(x, y)
+                }
+            }
+            ["edge", "start", ..] => {}
+            ["edge", ..] => give(&mut spots, graph, &words)?,
+            _ => {}
+        }
+    }
+    spots.spots = places.into_iter().collect::<Option<Vec<Point>>>()?;
+    Some(spots)
+}
+
+/// Nothing if `dot` does not help; standard error then says why.
+pub fn spots(graph: &Graph) -> Option<Spots> {
+    let spots = answer(&question(graph)).and_then(|answer| read(&answer, graph).ok_or("dot's answer cannot be read"));
+    spots.map_err(|why| eprintln!("draw: {why}")).ok()
+}
