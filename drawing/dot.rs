@@ -1,6 +1,7 @@
 //! Positions from graphviz's `dot`, asked for its plain output, so that the picture's style and marks stay our own.
 use crate::geometry::{Curve, Point};
 use crate::graph::Graph;
+use crate::layers::columns;
 use crate::layout::Spots;
 use std::fmt::Write as _;
 use std::io::{Read, Write};
@@ -9,33 +10,38 @@ use std::time::{Duration, Instant};
 
 /// Plans of more states are laid out by `dot`.
 pub const FROM: usize = 24;
-/// With more arrows `dot` would take minutes to find room for labels; ours are then put on its lines.
-const LABELLED: usize = 160;
+/// With more arrows `dot` may fail, or take minutes, to find room for labels; they are then put on its lines as on our own.
+const LABELLED: usize = 256;
 const PATIENCE: Duration = Duration::from_secs(20);
 /// `dot` counts in inches.
 const INCH: f64 = 72.0;
 
 /// The limits keep its search short on large plans.
 const HEAD: &str = "digraph plan {
-rankdir=LR; nodesep=0.35; nslimit=1; nslimit1=1; mclimit=0.2;
+rankdir=LR; nodesep=0.35; nslimit=4; nslimit1=4; mclimit=1;
 node [shape=circle fixedsize=true width=0.56 label=\"\"];
 edge [fontname=Helvetica fontsize=15 arrowsize=0.8];
 start [width=0.3];
 start -> 0;
 ";
 
-/// A label is as many letters as the event's name has, since only its width counts. Loops are drawn without `dot`.
+/// A label is as many letters as the event's name has, since only its width counts. Arrows that lead back do not count for the
+/// columns, so that these go by distance from the start, as without `dot`. Loops are drawn without it.
 fn question(graph: &Graph) -> String {
-    let mut question = HEAD.to_string();
+    let (columns, is_labelled) = (columns(graph), graph.arrows.len() <= LABELLED);
+    let column = |node: usize| columns.iter().position(|column| column.contains(&node));
+    let apart = if is_labelled { 0.5 } else { (graph.label() + 60.0) / INCH };
+    let mut question = format!("{HEAD}ranksep={apart:.2};\n");
     (0..graph.nodes.len()).for_each(|node| _ = writeln!(question, "{node};"));
     for arrow in graph.arrows.iter().filter(|arrow| arrow.from != arrow.to) {
-        let label = if graph.arrows.len() > LABELLED { String::new() } else { "o".repeat(arrow.event.len()) };
-        _ = writeln!(question, "{} -> {} [label=\"{label}\"];", arrow.from, arrow.to);
+        let label = if is_labelled { "o".repeat(arrow.event.len()) } else { String::new() };
+        let leads_on = column(arrow.from) < column(arrow.to);
+        _ = writeln!(question, "{} -> {} [label=\"{label}\" constraint={leads_on}];", arrow.from, arrow.to);
     }
     question + "}\n"
 }
 
-/// Whether the child ends by itself in time; otherwise it is ended.
+/// Whether the child ends well in time; one that does not end is ended.
 fn ends_in_time(child: &mut Child) -> bool {
     let until = Instant::now() + PATIENCE;
     while Instant::now() < until {
@@ -64,7 +70,7 @@ fn answer(question: &str) -> Result<String, &'static str> {
     _ = input.write_all(question.as_bytes());
     drop(input);
     if !ends_in_time(&mut child) {
-        return Err("dot gave no layout in time");
+        return Err("dot gave no layout, so the own one is drawn");
     }
     reader.join().ok().and_then(Result::ok).ok_or("dot's answer cannot be read")
 }

@@ -70,7 +70,8 @@ fn cubic(points: &[Point], part: f64) -> Point {
 pub fn settle(curve: &Curve, half: Point, taken: &mut Vec<(Point, Point)>) -> Point {
     let apart = |a: Point, b: Point, x: f64, y: f64| (a.x - b.x).abs() > x || (a.y - b.y).abs() > y;
     let free = |spot: &Point| taken.iter().all(|&(p, h)| apart(p, *spot, h.x + half.x, h.y + half.y));
-    let spots = [0.5, 0.4, 0.6, 0.3, 0.7, 0.2, 0.8].map(|part| curve.at(part));
+    let parts = [0.5, 0.4, 0.6, 0.3, 0.7, 0.2, 0.8, 0.45, 0.55, 0.35, 0.65, 0.25, 0.75, 0.15, 0.85];
+    let spots = parts.map(|part| curve.at(part));
     let spot = spots.into_iter().find(free).unwrap_or(curve.at(0.5));
     taken.push((spot, half));
     spot

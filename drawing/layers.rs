@@ -8,7 +8,7 @@ const UNREACHED: usize = 16;
 const SWEEPS: usize = 12;
 
 /// The nodes in columns, each as a breadth-first search finds them.
-fn columns(graph: &Graph) -> Vec<Vec<usize>> {
+pub fn columns(graph: &Graph) -> Vec<Vec<usize>> {
     let mut is_found = vec![false; graph.nodes.len()];
     let mut columns = vec![];
     let mut column: Vec<usize> = graph.start.into_iter().collect();
@@ -68,7 +68,8 @@ pub fn spots(graph: &Graph) -> Spots {
     sweep(&mut columns, &neighbours(graph));
     let rows = heights(&columns, graph.nodes.len());
     let (half, label) = (graph.half(), graph.label());
-    let (wide, high) = (2.0 * half.x + label + 60.0, 2.0 * half.y + 36.0);
+    // Room for two labels beside each other, since many arrows share the way between two columns.
+    let (wide, high) = (2.0 * half.x + 2.0 * label + 60.0, 2.0 * half.y + 60.0);
     let mut spots = vec![Point { x: 0.0, y: 0.0 }; graph.nodes.len()];
     for (index, column) in columns.iter().enumerate() {
         column.iter().for_each(|&node| spots[node] = Point { x: wide * index as f64, y: high * rows[node] });

@@ -117,7 +117,7 @@ impl Graph {
         let up = Point { y: middle.y - 1000.0, ..middle };
         let aim = if self.is_round() { middle.toward(Point { x: 0.0, y: 0.0 }, -1000.0) } else { up };
         let far = self.outside(middle, aim, 2.0 * LOOP + 24.0 * self.rank(index).0 as f64);
-        let side = Point { x: (far.y - middle.y) * 0.4, y: (middle.x - far.x) * 0.4 };
+        let side = Point { x: (far.y - middle.y) * 0.5, y: (middle.x - far.x) * 0.5 };
         let ends = [far.plus(side), far.plus(Point { x: -side.x, y: -side.y })];
         [self.outside(middle, ends[0], 2.0), far, self.outside(middle, ends[1], HEAD)]
     }

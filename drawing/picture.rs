@@ -9,7 +9,7 @@ const GAP: f64 = 20.0;
 const CAPTION: f64 = 30.0;
 const LEGEND: f64 = 26.0;
 /// If all panels side by side are wider, the boards come below the drawing.
-const WIDE: f64 = 1600.0;
+const WIDE: f64 = 2200.0;
 
 /// A graph with where its parts lie.
 pub struct Panel {
@@ -73,7 +73,8 @@ pub fn picture(panels: &[Panel], words: &[Words]) -> String {
     // Of a refused text nothing is known of what boards share.
     let is_shared = |event: &str| words.is_empty() && panels[1..].iter().filter(|board| has(board, event)).count() > 1;
     let mut right = largest(words.iter().map(|line| width(&line.words) + 3.0 * GAP));
-    let (mut body, mut below) = (headline(words), GAP + LEGEND * words.len() as f64);
+    let air = if words.is_empty() { 0.0 } else { GAP / 2.0 };
+    let (mut body, mut below) = (headline(words), GAP + LEGEND * words.len() as f64 + air);
     for panels in rows(panels) {
         let (drawn, end, bottom) = row(panels, below, &is_shared);
         (body, right, below) = (body + &drawn, right.max(end), bottom);

@@ -59,7 +59,9 @@ fn machine(line: &[u8]) -> Machine {
 
 impl Text {
     pub fn read(bytes: &[u8]) -> Text {
-        let bytes = &bytes[..bytes.len().min(BYTES)];
+        // The line that the bound cuts would read as another.
+        let cut = bytes.iter().take(BYTES).rposition(|&byte| byte == b'\n').map_or(0, |end| end + 1);
+        let bytes = if bytes.len() > BYTES { &bytes[..cut] } else { bytes };
         let mut lines: Vec<Vec<u8>> = bytes.split(|&byte| byte == b'\n').map(<[u8]>::to_vec).collect();
         if lines.last().is_some_and(Vec::is_empty) {
             lines.pop();
@@ -76,7 +78,9 @@ impl Text {
     fn take_line(&mut self, line: usize, bytes: &[u8]) {
         let words = words(bytes);
         match words.first() {
-            Some(&b"states") if words.len() == 2 && self.states == 0 => self.states = number(words[1]).unwrap_or(0).min(STATES),
+            Some(&b"states") if words.len() == 2 && self.states == 0 => {
+                self.states = number(words[1]).filter(|&count| count <= STATES).unwrap_or(0)
+            }
             Some(&b"events") if self.events.is_empty() => {
                 self.events = words[1..].iter().take(EVENTS).map(|name| shown(name, NAME)).collect()
             }
@@ -86,7 +90,7 @@ impl Text {
         }
     }
 
-    /// Without a count, the states are those of the steps. Steps to and from states that are not there cannot be drawn.
+    /// Without a count within its bound, the states are those of the steps. Steps to and from states that are not there cannot be drawn.
     fn settle_states(&mut self) {
         if self.states == 0 {
             let ends = self.steps.iter().map(|step| step.from.max(step.to).saturating_add(1));

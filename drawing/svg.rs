@@ -24,8 +24,8 @@ path.shared { fill: none; stroke: #c2410c; stroke-width: 2.5px; marker-end: url(
 /// Marks are thick as well as red. The colours of places repeat after ten; the figure in the node does not.
 const MARKS: &str = "<style>
 text.marked { fill: #dc2626; font-weight: bold; paint-order: stroke; stroke: #ffffff; stroke-width: 6px; stroke-linejoin: round; }
-text.words, text.line { text-anchor: start; }
-text.line { font-family: monospace; stroke: none; }
+text.words, text.line { text-anchor: start; stroke: none; }
+text.line { font-family: monospace; }
 text.place { font-size: 11px; fill: #475569; }
 path.marked { fill: none; stroke: #dc2626; stroke-width: 3px; marker-end: url(#marked); }
 path.stays { stroke-dasharray: 7 5; }

@@ -53,7 +53,8 @@ fn because(text: &Text, refusal: &Refusal) -> String {
 
 fn marked(refusal: &Refusal) -> &'static str {
     match refusal.number {
-        1..=3 => "Drawn is what could be read; the line's step is red, if it has one that can be drawn.",
+        2 if refusal.first == 0 => "Drawn is what its first 32,768 bytes hold.",
+        1..=3 => "Drawn is what could be read. Red: the line's step, if it has one that can be drawn.",
         4 => "Red: the step.",
         5 => "Red: the two steps.",
         6 => "Nothing is red: the event leads nowhere. Give it a step, or leave it out of line 2.",
