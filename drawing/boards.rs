@@ -43,7 +43,8 @@ fn moves(text: &Text, index: usize, event: usize, refusal: &Refusal) -> Vec<Arro
         true => Look::Marked,
         false => Look::Plain,
     };
-    let arrow = |&(from, to): &(usize, usize)| Arrow { look: look((from, to)), ..plain(text.event(event), from, to) };
+    let title = |(from, to)| if is_marked { format!("move {} {from} {to}", text.event(event)) } else { String::new() };
+    let arrow = |&way: &(usize, usize)| Arrow { look: look(way), title: title(way), ..plain(text.event(event), way.0, way.1) };
     ways.iter().filter(|_| is_move || is_uneven).map(arrow).collect()
 }
 
