@@ -23,9 +23,12 @@ impl Panel {
     }
 }
 
+fn total(panels: &[Panel]) -> f64 {
+    panels.iter().map(|panel| panel.width() + GAP).sum()
+}
+
 /// The panels in rows. The drawing has one of its own if they do not all fit into one.
 fn rows(panels: &[Panel]) -> Vec<&[Panel]> {
-    let total = |some: &[Panel]| some.iter().map(|panel| panel.width() + GAP).sum::<f64>();
     if total(panels) <= WIDE {
         return vec![panels];
     }
@@ -46,9 +49,17 @@ fn legend(at: Point, boards: usize) -> String {
     line("shared", &Curve::Bend([at, at, end]), "") + &text("legend", words, &format!("shared event: {who} move together"))
 }
 
-fn headline(words: &[Words]) -> String {
+/// The words above the panels and the room they take. They grow with the picture, so that they can be read where all of it is seen.
+fn headline(words: &[Words], wide: f64) -> (String, Point) {
+    if words.is_empty() {
+        return (String::new(), Point { x: 0.0, y: 0.0 });
+    }
+    let scale = (wide / WIDE).max(1.0);
     let at = |row: usize| Point { x: GAP, y: GAP + LEGEND * (row as f64 + 0.5) };
-    words.iter().enumerate().map(|(row, line)| text(line.class, at(row), &line.words)).collect()
+    let lines: String = words.iter().enumerate().map(|(row, line)| text(line.class, at(row), &line.words)).collect();
+    let longest = largest(words.iter().map(|line| width(&line.words)));
+    let room = Point { x: scale * (longest + 3.0 * GAP), y: scale * (LEGEND * words.len() as f64 + GAP / 2.0) };
+    (format!("<g transform=\"scale({scale:.2})\">\n{lines}</g>\n"), room)
 }
 
 /// A row of panels below a height, its right end, and its lower one.
@@ -72,10 +83,10 @@ pub fn picture(panels: &[Panel], words: &[Words]) -> String {
     let has = |board: &Panel, event: &str| board.graph.arrows.iter().any(|arrow| arrow.event == event);
     // Of a refused text nothing is known of what boards share.
     let is_shared = |event: &str| words.is_empty() && panels[1..].iter().filter(|board| has(board, event)).count() > 1;
-    let mut right = largest(words.iter().map(|line| width(&line.words) + 3.0 * GAP));
-    let air = if words.is_empty() { 0.0 } else { GAP / 2.0 };
-    let (mut body, mut below) = (headline(words), GAP + LEGEND * words.len() as f64 + air);
-    for panels in rows(panels) {
+    let rows = rows(panels);
+    let (mut body, room) = headline(words, largest(rows.iter().map(|panels| total(panels))));
+    let (mut right, mut below) = (room.x, GAP + room.y);
+    for panels in rows {
         let (drawn, end, bottom) = row(panels, below, &is_shared);
         (body, right, below) = (body + &drawn, right.max(end), bottom);
     }
