@@ -79,13 +79,13 @@ fn point(x: &str, y: &str) -> Option<Point> {
     Some(Point { x: x.parse::<f64>().ok()? * INCH, y: -y.parse::<f64>().ok()? * INCH })
 }
 
-/// A line `edge TAIL HEAD COUNT X Y ..`, then label and its X Y if there is one, then style and colour. The label is
-/// lifted off the line by nothing: it stands where `dot` left room.
+/// The words from COUNT on of a line `edge TAIL HEAD COUNT X Y ..`, then the label and its X Y if there is one, then style and
+/// colour.
 fn edge(words: &[&str]) -> Option<(Curve, Option<Point>)> {
     let count: usize = words.first()?.parse().ok()?;
-    let rest = words.get(1..)?;
-    let points: Option<Vec<Point>> = rest.get(..2 * count)?.chunks(2).map(|pair| point(pair[0], pair[1])).collect();
-    let label = match rest.get(2 * count..)? {
+    let (rest, end) = (words.get(1..)?, count.checked_mul(2)?);
+    let points: Option<Vec<Point>> = rest.get(..end)?.chunks(2).map(|pair| point(pair[0], pair[1])).collect();
+    let label = match rest.get(end..)? {
         [_, x, y, _, _] => point(x, y),
         _ => None,
     };
@@ -96,15 +96,16 @@ fn edge(words: &[&str]) -> Option<(Curve, Option<Point>)> {
 /// Gives an edge to the first arrow between these nodes that has none. `dot` ends it where its own head would begin.
 fn give(spots: &mut Spots, graph: &Graph, words: &[&str]) -> Option<()> {
     let (tail, head): (usize, usize) = (words.get(1)?.parse().ok()?, words.get(2)?.parse().ok()?);
-    let is_it = |index: &usize| (graph.arrows[*index].from, graph.arrows[*index].to) == (tail, head) && spots.found[*index].is_none();
-    let index = (0..graph.arrows.len()).find(is_it)?;
+    let joins = |index: usize| (graph.arrows[index].from, graph.arrows[index].to) == (tail, head);
+    let index = (0..graph.arrows.len()).find(|&index| joins(index) && spots.found[index].is_none())?;
     spots.found[index] = Some(edge(&words[3..])?);
     Some(())
 }
 
 fn read(answer: &str, graph: &Graph) -> Option<Spots> {
     let mut places = vec![None; graph.nodes.len()];
-    let mut spots = Spots { spots: vec![], lean: vec![0.0; graph.arrows.len()], found: graph.arrows.iter().map(|_| None).collect() };
+    let count = graph.arrows.len();
+    let mut spots = Spots { spots: vec![], lean: vec![0.0; count], found: vec![None; count] };
     for line in answer.lines() {
         let words: Vec<&str> = line.split_whitespace().collect();
         match words[..] {

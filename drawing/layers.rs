@@ -75,7 +75,7 @@ pub fn spots(graph: &Graph) -> Spots {
         column.iter().for_each(|&node| spots[node] = Point { x: wide * index as f64, y: high * rows[node] });
     }
     let lean = (0..graph.arrows.len()).map(|index| lean(graph, index, &spots, wide)).collect();
-    Spots { spots, lean, found: graph.arrows.iter().map(|_| None).collect() }
+    Spots { spots, lean, found: vec![None; graph.arrows.len()] }
 }
 
 /// Arrows within a column, or over several, bend aside, so that they pass the nodes between.

@@ -64,8 +64,8 @@ impl Graph {
 
     fn spots(&self, may_ask_dot: bool) -> Spots {
         if self.is_round() {
-            let none = self.arrows.iter().map(|_| None).collect();
-            return Spots { spots: self.circle(), lean: vec![0.0; self.arrows.len()], found: none };
+            let count = self.arrows.len();
+            return Spots { spots: self.circle(), lean: vec![0.0; count], found: vec![None; count] };
         }
         let asked = if may_ask_dot { dot::spots(self) } else { None };
         asked.unwrap_or_else(|| layers::spots(self))

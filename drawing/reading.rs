@@ -90,7 +90,8 @@ impl Text {
         }
     }
 
-    /// Without a count within its bound, the states are those of the steps. Steps to and from states that are not there cannot be drawn.
+    /// Without a count within its bound, the states are those of the steps. Steps to and from states that are not there cannot
+    /// be drawn.
     fn settle_states(&mut self) {
         if self.states == 0 {
             let ends = self.steps.iter().map(|step| step.from.max(step.to).saturating_add(1));

@@ -97,11 +97,14 @@ impl Graph {
         circle + &text("name", below(middle, -5.0), &name) + &text("place", below(middle, 8.0), &node.place)
     }
 
-    /// Nodes and arrows around a centre, labels last so that no line runs over them.
+    /// Nodes and arrows around a centre, labels last so that no line runs over them, and marked arrows over the others.
     pub fn draw(&self, layout: &Layout, centre: Point, is_shared: impl Fn(&str) -> bool) -> String {
         let start = layout.start.as_ref().map(|curve| line("own", &curve.shifted(centre), ""));
         let (mut lines, mut labels) = (start.unwrap_or_default(), String::new());
-        for (arrow, (curve, label)) in self.arrows.iter().zip(layout.curves.iter().zip(&layout.labels)) {
+        let mut order: Vec<usize> = (0..self.arrows.len()).collect();
+        order.sort_by_key(|&index| self.arrows[index].look != Look::Plain);
+        for index in order {
+            let (arrow, curve, label) = (&self.arrows[index], &layout.curves[index], &layout.labels[index]);
             let (class, label_class) = match arrow.look {
                 Look::Plain if is_shared(&arrow.event) => ("shared", "shared"),
                 Look::Plain => ("own", "own"),
