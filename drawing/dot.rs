@@ -12,7 +12,7 @@ use std::time::{Duration, Instant};
 pub const FROM: usize = 24;
 /// With more arrows `dot` may fail, or take minutes, to find room for labels; they are then put on its lines as on our own.
 const LABELLED: usize = 256;
-const PATIENCE: Duration = Duration::from_secs(20);
+const PATIENCE: Duration = Duration::from_secs(10);
 /// `dot` counts in inches.
 const INCH: f64 = 72.0;
 

@@ -60,7 +60,7 @@ fn run(names: &[String]) -> Result<(String, bool), String> {
         Answer::Refused(refusal) => words::headline(&text, refusal),
     };
     if text.states == 0 {
-        let lines: Vec<&str> = words.iter().map(|line| line.words.as_str()).take(2).collect();
+        let lines: Vec<&str> = words.iter().filter(|line| line.class != "words").map(|line| line.words.as_str()).collect();
         return Err(format!("no state can be read, so nothing is drawn: {}", lines.join("; ")));
     }
     let panels: Vec<Panel> = graphs(&text, &answer).into_iter().map(|graph| panel(graph, is_own)).collect();

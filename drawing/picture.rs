@@ -49,7 +49,8 @@ fn legend(at: Point, boards: usize) -> String {
     line("shared", &Curve::Bend([at, at, end]), "") + &text("legend", words, &format!("shared event: {who} move together"))
 }
 
-/// The words above the panels and the room they take. They grow with the picture, so that they can be read where all of it is seen.
+/// The words above the panels and the room they take. They grow with the picture, so that they can be read where all of it is
+/// seen.
 fn headline(words: &[Words], wide: f64) -> (String, Point) {
     if words.is_empty() {
         return (String::new(), Point { x: 0.0, y: 0.0 });
