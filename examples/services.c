@@ -1,4 +1,5 @@
-/* All five services of the proved library on the text on standard input, from C or C++. examples/again builds and runs it. */
+/* All five services of the proved library on the text on standard input, from C or C++.
+ * examples/again builds and runs it. */
 #include "split.h"
 #include <stdio.h>
 
@@ -36,7 +37,8 @@ int main(void)
     struct split_answer listed = split_steps(text, len, steps, 1024);
     for (size_t i = 0; i < listed.size; i++) {
         struct split_part name = split_name(text, len, steps[i].event);
-        printf("%d -%.*s-> %d\n", steps[i].source, (int)name.size, (const char *)text + name.from, steps[i].target);
+        const char *word = (const char *)text + name.from;
+        printf("%d -%.*s-> %d\n", steps[i].source, (int)name.size, word, steps[i].target);
     }
 
     const uint8_t events[] = {0, 1, 2, 2};

@@ -1,4 +1,5 @@
-//! All five services of the proved library on the text on standard input, from Rust. examples/again builds and runs it.
+//! All five services of the proved library on the text on standard input, from Rust.
+//! examples/again builds and runs it.
 use std::io::{self, Read, Write};
 
 #[path = "../include/split.rs"]
@@ -30,7 +31,8 @@ fn main() -> io::Result<()> {
     let listed = split::steps(&text, &mut steps);
     for step in &steps[..listed.size] {
         let split::Name { from, size, .. } = split::name(&text, step.event.into());
-        println!("{} -{}-> {}", step.source, String::from_utf8_lossy(&text[from..from + size]), step.target);
+        let name = String::from_utf8_lossy(&text[from..from + size]);
+        println!("{} -{name}-> {}", step.source, step.target);
     }
 
     print_run(&text, &[0, 1, 2, 2]);

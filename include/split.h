@@ -38,6 +38,10 @@
 #ifndef SPLIT_H
 #define SPLIT_H
 
+#if !defined(__x86_64__) || defined(_WIN32)
+#error "the library is code for x86-64 with System V calls"
+#endif
+
 #include <stddef.h>
 #include <stdint.h>
 
@@ -118,7 +122,7 @@ struct split_set split_thin(const uint8_t *text, size_t text_len);
 #define SPLIT_ASSERT(layout) _Static_assert(layout, "the library is built for x86-64")
 #endif
 
-/* The layout that the library has, #[repr(C)]: a compiler for anything else stops here. */
+/* The layout that the library has, #[repr(C)]: a compiler that has another stops here. */
 #define SPLIT_AT(name, field, place) SPLIT_ASSERT(offsetof(struct name, field) == (place))
 #define SPLIT_REFUSAL_FIRST(name) \
     SPLIT_AT(name, number, 0);    \

@@ -1,15 +1,20 @@
-//! The proved library from Rust: the functions of split.h, and safe ones over them, since a slice's own pointer and length are what each asks for.
+//! The proved library from Rust: the functions of split.h, and safe ones over them, since a slice's
+//! own pointer and length are what each asks for.
 //!
 //!     #[path = "include/split.rs"]
 //!     mod split;
 //!
 //!     rustc -L target/staticlib -l static=split_c program.rs
 //!
-//! It uses `core` alone, in any edition, from rustc 1.82 on. split.h says what each field means and what the library needs; `Name` is its `split_part`,
-//! `Run` its `split_run_answer`. No compiler holds these declarations to the library, so they stand here once; tests/comparison calls each of them.
+//! It uses `core` alone, in any edition, from rustc 1.82 on. split.h says what each field means and
+//! what the library needs; `Name` is its `split_part`, `Run` its `split_run_answer`. No compiler
+//! holds these declarations to the library, so they stand here once; tests/comparison calls each.
 
 // A program need not call all of it.
 #![allow(dead_code)]
+
+#[cfg(any(not(target_arch = "x86_64"), windows))]
+compile_error!("the library is code for x86-64 with System V calls");
 
 /// What `number` says: the answer stands, or why the call is refused.
 pub const ANSWERED: usize = 0;
@@ -80,7 +85,8 @@ pub struct Set {
 // The layout of the library, as split.h asserts it too.
 macro_rules! layout {
     ($name:ident has $size:literal bytes, $($field:ident $place:literal),+) => {
-        const _: () = assert!(core::mem::size_of::<$name>() == $size $(&& core::mem::offset_of!($name, $field) == $place)+);
+        const _: () = assert!(core::mem::size_of::<$name>() == $size);
+        $(const _: () = assert!(core::mem::offset_of!($name, $field) == $place);)+
     };
 }
 layout!(Step has 3 bytes, source 0, event 1, target 2);

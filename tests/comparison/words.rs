@@ -17,7 +17,7 @@ const NO_EVENTS: &[u8] = b"-1|+1|007|00|01|1.5|0x1|1e3|9x|-|-a|Ready|rEADY|readY
 
 /// Too few words, too many, or not those of any service.
 const NO_CALLS: &str =
-    "name|name 0 1|name ready ready|check 5 6|check 300 0|check ready|steps 5 6|steps 5 5|steps ready|\
+    "name|name 0 1|name ready ready|name Ready x y|run Ready Brake|explain x y|check 5 6|check 300 0|check ready|steps 5 6|steps 5 5|steps ready|\
     thin 0|thin ready|help 1|help run|help Text|help text text|explain|explain 0|explain 15|explain 01|explain x|\
     explain 1x|explain -1|explain Open|explain idle event|explain 1 x|explain open 1 2 3|explain 12 0 02|Check|checks|\
     chec|sheet|merge 5|ready|0| check|check 0 | check 0|";
@@ -50,7 +50,8 @@ fn wrong_words() -> Vec<Vec<OsString>> {
         lists.push(vec![OsString::from("run"), word.into(), OsString::from("1")]);
     }
     lists.extend(HUGE.map(|figure| parted(&format!("explain {figure}"))));
-    lists.extend([4095, 4096, 4097].map(|n| parted(&format!("run {}", "x".repeat(n)))));
+    lists.extend([40, 41, 4095, 4096, 4097].map(|n| parted(&format!("run {}", "x".repeat(n)))));
+    lists.extend(["~", "!", "\x7f"].map(|word| parted(&format!("thin {word}"))));
     lists
 }
 
@@ -68,7 +69,7 @@ fn is_refusal(word: &[u8]) -> bool {
     (1..=14).any(|n: usize| word == n.to_string().as_bytes() || word == REFUSALS[n - 1].as_bytes())
 }
 
-/// The first word that is wrong, counted from 1, or that is missing. The program reads one over 4,096 bytes as empty.
+/// The first word that is wrong, counted from 1, or that is missing.
 fn wrong(words: &[OsString]) -> usize {
     let words: Vec<&[u8]> = words.iter().map(|word| word.as_bytes()).collect();
     let fits: &dyn Fn(usize, &[u8]) -> bool = match words[0] {
@@ -121,16 +122,31 @@ fn is_help(done: &Output) -> bool {
     is_screen(done) && named.into_iter().all(|word| words.contains(word.as_str()))
 }
 
+/// The first line of each explanation up to its last detail, with the details 70 and 90.
+const EXPLAINED: [&str; 14] = [
+    "misformed: line 70",
+    "oversize: line 70",
+    "stranger: line 70",
+    "standstill: the step on line 70",
+    "fork: the step on line 70 has the same state and event as that on line 90",
+    "idle event: no step has event 70",
+    "unreached: no steps lead from state 0 to state 70",
+    "doubled: machine 70 lists state 90",
+    "missing: machine 70 has no place with state 90",
+    "uneven: a place of machine 70 is no region: some steps of event 90",
+    "unheld: event 70",
+    "open: in state 90 the machines are ready for event 70",
+    "short sheet: what was lent is too short for the answer, which needs size 70",
+    "odd call: the event at position 70",
+];
+
 /// Of the refusal with this number, with these details in place of A and B.
 fn is_explanation(number: usize, details: &[&str], done: &Output) -> bool {
     let text = String::from_utf8_lossy(&done.stdout);
-    let words: BTreeSet<&str> = text.split(|c: char| !c.is_ascii_alphanumeric()).collect();
-    let takes = if [5, 8, 9, 10, 12].contains(&number) { 2 } else { 1 };
-    let filled = ["A", "B"].into_iter().take(takes).enumerate().all(|(k, letter)| match details.get(k) {
-        Some(detail) => words.contains(detail) && !words.contains(letter),
-        None => words.contains(letter),
+    let due = ["70", "90"].iter().zip(["A", "B"]).enumerate().fold(EXPLAINED[number - 1].to_string(), |line, (k, (detail, letter))| {
+        if k < details.len() { line } else { line.replace(detail, letter) }
     });
-    is_text(done, 2..=8) && text.starts_with(REFUSALS[number - 1]) && filled && !text.contains(['%', '#'])
+    is_text(done, 2..=8) && text.starts_with(&due) && !text.contains(['%', '#'])
 }
 
 /// The program with all of these words.
@@ -146,6 +162,9 @@ pub fn compare(program: &Program, watchdog: &Watchdog, report: &Report) {
             held(words, turn, "one line on standard error that says the wrong word", &|done| is_usage(words, done));
         }
     }
+    let many: Vec<OsString> = [vec!["run".into()], vec!["x".repeat(4096).into(); 356]].concat();
+    let is_too_long = |done: &Output| done.stdout.is_empty() && done.stderr.starts_with(b"split: the words are too long to be read; usage: ");
+    held(&many, 0, "one line on standard error that says that the words are too long", &is_too_long);
     for turn in 0..texts.len() {
         held(&parted("help"), turn, "at most 24 lines of 80 columns with every service and 1 to 14", &is_help);
         held(&parted("help text"), turn, "at most 24 lines of 80 columns", &|done| is_screen(done));

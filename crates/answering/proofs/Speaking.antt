@@ -1,4 +1,4 @@
--- An answer has at least one byte: where no byte is left to be printed there is none, and usage is printed.
+-- An answer has at least one byte: no byte is printed only where there is none.
 use Prim.Native.Nat.{ℕ, _<_, _≤_}
 use native.Mathlib.Omega.{arith}
 use mathlib.Core.Path.{_≡_, refl, ap, sym, _∙_, subst}

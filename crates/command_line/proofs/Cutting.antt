@@ -91,12 +91,12 @@ some-words (b ∷ s) h = go (eqb b 0) (wordsIn s)
     go false (w ∷ ws) = words (b ∷ w) ws refl
 
 module _ {s : List ℕ} {end : ℕ} (c : WordCut s 0 end) where
-  pub first-word : 0 < length s → wordsIn s ≡ take end s ∷ wordsIn (drop (end + 1) s)
-  first-word l = let z : end - 0 ≡ end = omega arith in rw z at (c .cut l)
+  pub first-of : 0 < length s → wordsIn s ≡ take end s ∷ wordsIn (drop (end + 1) s)
+  first-of l = let z : end - 0 ≡ end = omega arith in rw z at (c .cut l)
 
   -- one word
   lone : 0 < length s → length s ≤ end + 1 → wordsIn s ≡ take end s ∷ []
-  lone l h = first-word l ∙ ap (λ (x : List (List ℕ)). take end s ∷ x) (ap wordsIn (drop-of-length-le s h) ∙ no-words [] refl)
+  lone l h = first-of l ∙ ap (λ (x : List (List ℕ)). take end s ∷ x) (ap wordsIn (drop-of-length-le s h) ∙ no-words [] refl)
 
   -- two or more
   module _ (h : end + 1 < length s) where
@@ -107,17 +107,17 @@ module _ {s : List ℕ} {end : ℕ} (c : WordCut s 0 end) where
     two f a e = go more
       where
         go : Some (wordsIn (drop (end + 1) s)) → a ≡ f (wordsIn s)
-        go (words v vs q) = sym (ap f (first-word (omega arith) ∙ ap (λ (x : List (List ℕ)). take end s ∷ x) q) ∙ e (take end s) v vs)
+        go (words v vs q) = sym (ap f (first-of (omega arith) ∙ ap (λ (x : List (List ℕ)). take end s ∷ x) q) ∙ e (take end s) v vs)
 
   -- ---- what is asked
 
   pub asks-first : {r : Service} → 0 < length s → r ≡ serviceSaid (take end s) → r ≡ serviceAsked (wordsIn s)
   unfolding serviceAsked
-  asks-first h e = e ∙ sym (ap serviceAsked (first-word h))
+  asks-first h e = e ∙ sym (ap serviceAsked (first-of h))
 
   pub further-behind : end < length s → wordsIn (drop (end + 1) s) ≡ furtherWords (wordsIn s)
   unfolding furtherWords
-  further-behind h = sym (ap furtherWords (first-word (omega arith)))
+  further-behind h = sym (ap furtherWords (first-of (omega arith)))
 
   pub further-none : length s ≤ end → wordsIn (drop end s) ≡ furtherWords (wordsIn s)
   unfolding furtherWords

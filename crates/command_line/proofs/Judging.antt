@@ -13,7 +13,10 @@ use types.Run.{OneOf}
 use lib.Dec.{leb}
 use lib.ListN.{length, take, drop, length-drop, drop-of-length-le}
 use lib.Seq.{drop-drop, take-all}
+use Rattle.model.specs.declared.Refusal.{Refusal}
+use Rattle.model.specs.declared.Refusal.the-variants.{Malformed, LimitExceeded, Undeclared, SelfLoop, Nondeterministic, UnusedEvent, Unreachable, DuplicateState, UncoveredState, NotARegion, IneffectiveEvent, NotExcitationClosed, BufferTooShort, UnknownEvent}
 use Rattle.model.specs.Bytes.{bytes, decimal}
+use Rattle.model.specs.Cases.{tabled}
 use Rattle.model.proofs.Laws.{order}
 use Rattle.command_line.specs.declared.Service.{Service}
 use Rattle.command_line.specs.declared.Service.the-variants.{Check, Steps, Name, Run, Thin, Help, Explain, Unknown}
@@ -22,7 +25,7 @@ use Rattle.command_line.specs.declared.Said.the-variants.{Neither, Numbe
 use Rattle.command_line.specs.Words.{sameWord, isNumeral, said, numberSaid}
 use Rattle.command_line.specs.WordRow.{begunBy, wordsIn, WordCut, BeginsAt}
 use Rattle.command_line.specs.Program.{serviceAsked, furtherWords}
-use Rattle.command_line.specs.Replies.{isRefusal, refusalNames, numberFrom, refusalSaid, fits, leastWords, wrongFrom, isUnknown, wrongWord}
+use Rattle.command_line.specs.Replies.{isRefusal, refusalNames, numberFrom, refusalSaid, takes, leastWords, wrongFrom, isUnknown, wrongWord}
 use Rattle.command_line.proofs.Service.{the-type}
 use Rattle.command_line.proofs.Cutting.{no-words}
 
@@ -57,6 +60,24 @@ module _ {w s : List ℕ} {n at : ℕ} (u : Unlike w s n at) where
 pub names-in-row : wordsIn (bytes "misformed\0oversize\0stranger\0standstill\0fork\0idle\0unreached\0doubled\0missing\0uneven\0unheld\0open\0short\0odd") ≡ refusalNames
 unfolding wordsIn begunBy
 names-in-row = refl
+
+-- every refusal of the table can be explained
+pub each-explained : (r : Refusal) → isRefusal (tabled r .number) ≡ true
+unfolding isRefusal tabled
+each-explained (Malformed l) = refl
+each-explained (LimitExceeded l) = refl
+each-explained (Undeclared l) = refl
+each-explained (SelfLoop l) = refl
+each-explained (Nondeterministic l e) = refl
+each-explained (UnusedEvent e) = refl
+each-explained (Unreachable q) = refl
+each-explained (DuplicateState m q) = refl
+each-explained (UncoveredState m q) = refl
+each-explained (NotARegion m e) = refl
+each-explained (IneffectiveEvent e) = refl
+each-explained (NotExcitationClosed e q) = refl
+each-explained (BufferTooShort n) = refl
+each-explained (UnknownEvent p) = refl
 
 -- by what the code finds: a number as far as 65535, or none
 module _ (w : List ℕ) (r : Said) (p : said r ≡ numberSaid 65535 w) where
@@ -102,28 +123,28 @@ not-false : (t : Bool) → not t ≡ false → t ≡ true
 not-false true e = refl
 not-false false e = sym e
 
--- k words between the service and `at`, and each fits
-pub record Fitted (a : Service) (s : List ℕ) (k at : ℕ) : Type 0 where
+-- k words between the service and `at`, and the service takes each
+pub record Right (a : Service) (s : List ℕ) (k at : ℕ) : Type 0 where
   pub few : k ≤ at
   pub within : at ≤ length s + 1
   pub left : wrongFrom a k (wordsIn (drop at s)) ≡ wrongFrom a 0 (furtherWords (wordsIn s))
 
 module _ {s : List ℕ} {a : Service} where
-  pub fitted-start : {at : ℕ} → at ≤ length s → wordsIn (drop at s) ≡ furtherWords (wordsIn s) → Fitted a s 0 at
-  fitted-start h e = record { few = omega arith; within = omega arith; left = ap (wrongFrom a 0) e }
+  pub right-start : {at : ℕ} → at ≤ length s → wordsIn (drop at s) ≡ furtherWords (wordsIn s) → Right a s 0 at
+  right-start h e = record { few = omega arith; within = omega arith; left = ap (wrongFrom a 0) e }
 
-  module _ {k at : ℕ} (f : Fitted a s k at) where
-    module _ (l : at < length s) {end : ℕ} (c : WordCut s at end) {t : Bool} (p : t ≡ fits a k (take (end - at) (drop at s))) where
+  module _ {k at : ℕ} (f : Right a s k at) where
+    module _ (l : at < length s) {end : ℕ} (c : WordCut s at end) {t : Bool} (p : t ≡ takes a k (take (end - at) (drop at s))) where
       by-next : cond t (wrongFrom a (k + 1) (wordsIn (drop (end + 1) s))) (k + 2) ≡ wrongFrom a 0 (furtherWords (wordsIn s))
       unfolding wrongFrom
       by-next = rw p (ap (wrongFrom a k) (sym (c .cut l)) ∙ f .left)
 
-      -- the code asks whether it does not fit
-      pub unfit : not t ≡ true → k + 2 ≡ wrongFrom a 0 (furtherWords (wordsIn s))
-      unfit n = rw (not-true t n) at by-next
+      -- the code asks whether it is not taken
+      pub wrong-here : not t ≡ true → k + 2 ≡ wrongFrom a 0 (furtherWords (wordsIn s))
+      wrong-here n = rw (not-true t n) at by-next
 
-      pub fitted-more : not t ≡ false → Fitted a s (k + 1) (end + 1)
-      fitted-more n = record { few = omega (arith, f .few, c .least); within = omega (arith, c .most); left = rw (not-false t n) at by-next }
+      pub right-more : not t ≡ false → Right a s (k + 1) (end + 1)
+      right-more n = record { few = omega (arith, f .few, c .least); within = omega (arith, c .most); left = rw (not-false t n) at by-next }
 
     module _ (h : length s ≤ at) {least : ℕ} (p : least ≡ leastWords a) where
       at-end : cond (leb least k) 0 (k + 2) ≡ wrongFrom a 0 (furtherWords (wordsIn s))
@@ -133,8 +154,8 @@ module _ {s : List ℕ} {a : Service} where
       pub one-missing : k < least → k + 2 ≡ wrongFrom a 0 (furtherWords (wordsIn s))
       one-missing m = rw (lt-leb least k m) at at-end
 
-      pub all-fit : least ≤ k → 0 ≡ wrongFrom a 0 (furtherWords (wordsIn s))
-      all-fit m = rw (le-leb least k m) at at-end
+      pub all-right : least ≤ k → 0 ≡ wrongFrom a 0 (furtherWords (wordsIn s))
+      all-right m = rw (le-leb least k m) at at-end
 
 -- ---- all words
 
@@ -181,17 +202,17 @@ further-as (suc k) [] = refl
 further-as (suc k) (w ∷ ws) = further-as k ws
 
 -- n - 1 words stand before `at`
-pub record Passed (number : ℕ) (s : List ℕ) (n at : ℕ) : Type 0 where
+pub record WordsBefore (number : ℕ) (s : List ℕ) (n at : ℕ) : Type 0 where
   pub one : 1 ≤ n
   pub near : n - 1 ≤ number - 1
   pub begun : BeginsAt n s at
 
-pub passed-none : {number : ℕ} {s : List ℕ} → Passed number s 1 0
-passed-none = record { one = omega arith; near = omega arith; begun = record { most = omega arith; others = refl } }
+pub before-first : {number : ℕ} {s : List ℕ} → WordsBefore number s 1 0
+before-first = record { one = omega arith; near = omega arith; begun = record { most = omega arith; others = refl } }
 
-pub passed-more : {number : ℕ} {s : List ℕ} {n at : ℕ} → Passed number s n at → n < number → {size : ℕ} → size ≤ length (take (length s - at) (drop at s))
-    → wordsIn (drop size (take (length s - at) (drop at s))) ≡ furtherWords (wordsIn (take (length s - at) (drop at s))) → Passed number s (n + 1) (at + size)
-passed-more {number} {s} {n} {at} p l {size} h e =
+pub before-next : {number : ℕ} {s : List ℕ} {n at : ℕ} → WordsBefore number s n at → n < number → {size : ℕ} → size ≤ length (take (length s - at) (drop at s))
+    → wordsIn (drop size (take (length s - at) (drop at s))) ≡ furtherWords (wordsIn (take (length s - at) (drop at s))) → WordsBefore number s (n + 1) (at + size)
+before-next {number} {s} {n} {at} p l {size} h e =
     let whole : take (length s - at) (drop at s) ≡ drop at s = take-all (length s - at) (drop at s) (omega (arith, length-drop at s)) in
     record {
       one = omega arith;
@@ -215,7 +236,7 @@ passed-more {number} {s} {n} {at} p l {size} h e =
     after : (m : ℕ) → 1 ≤ m → m - 1 + 1 ≡ m + 1 - 1
     after m l = omega arith
 
-pub passed-all : {number : ℕ} {s : List ℕ} {n at : ℕ} → Passed number s n at → number ≤ n → BeginsAt number s at
-passed-all {number} {s} {n} p h =
+pub before-number : {number : ℕ} {s : List ℕ} {n at : ℕ} → WordsBefore number s n at → number ≤ n → BeginsAt number s at
+before-number {number} {s} {n} p h =
     let z : n - 1 ≡ number - 1 = omega (arith, p .near) in
     record { most = p .begun .most; others = p .begun .others ∙ ap (λ (k : ℕ). drop k (wordsIn s)) z }

@@ -18,7 +18,7 @@ use Rattle.command_line.specs.WordRow.{wordsIn, WordCut}
 use Rattle.command_line.specs.Program.{serviceAsked, furtherWords}
 use Rattle.command_line.specs.Replies.{refusalSaid, wrongWord, helpAsked, explanationAsked, replyBy, replyAsked}
 use Rattle.command_line.proofs.Service.{the-type}
-use Rattle.command_line.proofs.Cutting.{words-from, no-words, Some, words, some-words, first-word}
+use Rattle.command_line.proofs.Cutting.{words-from, no-words, Some, words, some-words, first-of}
 
 -- ---- help and explanations
 
@@ -39,7 +39,7 @@ explains-nothing s h = sym (ap explanationAsked (no-words s h))
 
 pub explains : {s : List ℕ} {end : ℕ} → WordCut s 0 end → (length s ≡ 0 → ⊥) → {n : ℕ} → n ≡ refusalSaid (take end s) → R.Explanation n ≡ explanationAsked (wordsIn s)
 unfolding explanationAsked
-explains {s} {end} c h e = ap R.Explanation e ∙ sym (ap explanationAsked (first-word c (omega (arith, h))))
+explains {s} {end} c h e = ap R.Explanation e ∙ sym (ap explanationAsked (first-of c (omega (arith, h))))
 
 -- ---- all words
 

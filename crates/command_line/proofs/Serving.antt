@@ -17,39 +17,39 @@ use Rattle.command_line.specs.declared.Reply.{Reply}
 use Rattle.command_line.specs.declared.Reply.the-variants as R
 use Rattle.command_line.specs.Words.{serviceSaid, isNumeral, isNameWord, numberSaid, eventSaid}
 use Rattle.command_line.specs.Program.{sizeSaid, oneEventSaid, before, eventsSaid, namesOf, answerThin, answerBy, answerTo, serviceAsked, furtherWords}
-use Rattle.command_line.specs.Replies.{saysEvent, fits, leastWords, wrongFrom, isUnknown, wrongWord, helpAsked, explanationAsked, replyBy, replyAsked}
+use Rattle.command_line.specs.Replies.{saysEvent, takes, leastWords, wrongFrom, isUnknown, wrongWord, helpAsked, explanationAsked, replyBy, replyAsked}
 
 -- something is said where no word is wrong, and nothing where one is
-data Judged {A : Type 0} (o : Option A) (wrong : ℕ) : Type 0 where
-  right : (a : A) → o ≡ some a → wrong ≡ 0 → Judged o wrong
-  not-right : o ≡ none → 0 < wrong → Judged o wrong
+data Agrees {A : Type 0} (o : Option A) (wrong : ℕ) : Type 0 where
+  right : (a : A) → o ≡ some a → wrong ≡ 0 → Agrees o wrong
+  not-right : o ≡ none → 0 < wrong → Agrees o wrong
 
-mapped : {A B : Type 0} (f : A → B) {o : Option A} {wrong : ℕ} → Judged o wrong → Judged (Option·map f o) wrong
+mapped : {A B : Type 0} (f : A → B) {o : Option A} {wrong : ℕ} → Agrees o wrong → Agrees (Option·map f o) wrong
 mapped f (right a e z) = right (f a) (ap (Option·map f) e) z
 mapped f (not-right e h) = not-right (ap (Option·map f) e) h
 
 -- ---- by what follows the service
 
-number-judged : (most : ℕ) (w : List ℕ) → Judged (numberSaid most w) (cond (isNumeral w) 0 2)
+number-judged : (most : ℕ) (w : List ℕ) → Agrees (numberSaid most w) (cond (isNumeral w) 0 2)
 unfolding numberSaid
 number-judged most w = go (isNumeral w)
   where
-    go : (t : Bool) → Judged (cond t (some (min (decimal w) most)) none) (cond t 0 2)
+    go : (t : Bool) → Agrees (cond t (some (min (decimal w) most)) none) (cond t 0 2)
     go true = right (min (decimal w) most) refl refl
     go false = not-right refl (omega arith)
 
-event-judged : (names : List Name) (w : List ℕ) (wrong : ℕ) → 0 < wrong → Judged (eventSaid names w) (cond (saysEvent w) 0 wrong)
+event-judged : (names : List Name) (w : List ℕ) (wrong : ℕ) → 0 < wrong → Agrees (eventSaid names w) (cond (saysEvent w) 0 wrong)
 unfolding eventSaid numberSaid saysEvent
 event-judged names w wrong h = go (isNameWord w) (isNumeral w)
   where
-    go : (t u : Bool) → Judged (cond t (some (eventNumber names w)) (cond u (some (min (decimal w) 255)) none)) (cond (t || u) 0 wrong)
+    go : (t u : Bool) → Agrees (cond t (some (eventNumber names w)) (cond u (some (min (decimal w) 255)) none)) (cond (t || u) 0 wrong)
     go true u = right (eventNumber names w) refl refl
     go false true = right (min (decimal w) 255) refl refl
     go false false = not-right refl h
 
 -- one word, or none
-size-judged : (a : Service) → ((w : List ℕ) → fits a 0 w ≡ isNumeral w) → ((k : ℕ) (w : List ℕ) → fits a (suc k) w ≡ false) → leastWords a ≡ 0
-    → (usual : ℕ) (ws : List (List ℕ)) → Judged (sizeSaid usual ws) (wrongFrom a 0 ws)
+size-judged : (a : Service) → ((w : List ℕ) → takes a 0 w ≡ isNumeral w) → ((k : ℕ) (w : List ℕ) → takes a (suc k) w ≡ false) → leastWords a ≡ 0
+    → (usual : ℕ) (ws : List (List ℕ)) → Agrees (sizeSaid usual ws) (wrongFrom a 0 ws)
 unfolding sizeSaid wrongFrom
 size-judged a f g l usual [] = right usual refl (rw l)
 size-judged a f g l usual (w ∷ []) = rw (f w, l) (number-judged 65535 w)
@@ -59,8 +59,8 @@ size-judged a f g l usual (w ∷ v ∷ ws) = not-right refl (rw (f w, g 0 v) (go
     go true = omega arith
     go false = omega arith
 
-name-judged : (names : List Name) (ws : List (List ℕ)) → Judged (oneEventSaid names ws) (wrongFrom S.Name 0 ws)
-unfolding oneEventSaid wrongFrom fits leastWords
+name-judged : (names : List Name) (ws : List (List ℕ)) → Agrees (oneEventSaid names ws) (wrongFrom S.Name 0 ws)
+unfolding oneEventSaid wrongFrom takes leastWords
 name-judged names [] = not-right refl (omega arith)
 name-judged names (w ∷ []) = event-judged names w 2 (omega arith)
 name-judged names (w ∷ v ∷ ws) = not-right refl (go (saysEvent w))
@@ -69,21 +69,21 @@ name-judged names (w ∷ v ∷ ws) = not-right refl (go (saysEvent w))
     go true = omega arith
     go false = omega arith
 
-run-judged : (names : List Name) (k : ℕ) (ws : List (List ℕ)) → Judged (eventsSaid names ws) (wrongFrom S.Run k ws)
-unfolding eventsSaid before wrongFrom fits leastWords
+run-judged : (names : List Name) (k : ℕ) (ws : List (List ℕ)) → Agrees (eventsSaid names ws) (wrongFrom S.Run k ws)
+unfolding eventsSaid before wrongFrom takes leastWords
 run-judged names k [] = right [] refl (rw (le-leb 0 k (omega arith)))
 run-judged names k (w ∷ ws) = go (saysEvent w) (event-judged names w (k + 2) (omega arith)) (run-judged names (k + 1) ws)
   where
-    go : (t : Bool) → Judged (eventSaid names w) (cond t 0 (k + 2)) → Judged (eventsSaid names ws) (wrongFrom S.Run (k + 1) ws)
-        → Judged (before (eventSaid names w) (eventsSaid names ws)) (cond t (wrongFrom S.Run (k + 1) ws) (k + 2))
+    go : (t : Bool) → Agrees (eventSaid names w) (cond t 0 (k + 2)) → Agrees (eventsSaid names ws) (wrongFrom S.Run (k + 1) ws)
+        → Agrees (before (eventSaid names w) (eventsSaid names ws)) (cond t (wrongFrom S.Run (k + 1) ws) (k + 2))
     go true (right e p z) (right es q y) = right (e ∷ es) (rw (p, q)) y
     go true (right e p z) (not-right q h) = not-right (rw (p, q)) h
     go true (not-right p h) j = absurd (omega arith)
     go false (right e p z) j = absurd (omega arith)
     go false (not-right p h) j = not-right (rw p) h
 
-thin-judged : (ws : List (List ℕ)) (s : List ℕ) → Judged (answerThin ws s) (wrongFrom S.Thin 0 ws)
-unfolding answerThin wrongFrom fits leastWords
+thin-judged : (ws : List (List ℕ)) (s : List ℕ) → Agrees (answerThin ws s) (wrongFrom S.Thin 0 ws)
+unfolding answerThin wrongFrom takes leastWords
 thin-judged [] s = right (printedThin s) refl refl
 thin-judged (w ∷ ws) s = not-right refl (omega arith)
 
@@ -100,8 +100,8 @@ no-explanation [] e = let z : _≡_ {A = ℕ} 0 1 = cc in omega arith
 no-explanation (w ∷ ws) e = let z : _≡_ {A = ℕ} 0 1 = cc in omega arith
 
 -- a service and its words, without the text and with it
-judged : (a : Service) (ws : List (List ℕ)) (s : List ℕ) → replyBy a ws ≡ R.Service → Judged (answerBy a ws s) (cond (isUnknown a) 1 (wrongFrom a 0 ws))
-unfolding replyBy answerBy isUnknown fits leastWords
+judged : (a : Service) (ws : List (List ℕ)) (s : List ℕ) → replyBy a ws ≡ R.Service → Agrees (answerBy a ws s) (cond (isUnknown a) 1 (wrongFrom a 0 ws))
+unfolding replyBy answerBy isUnknown takes leastWords
 judged S.Check ws s e = mapped (printedCheck s) (size-judged S.Check (λ w. refl) (λ k w. rw (ne-eqb (suc k) 0 (λ z. omega arith))) refl 32768 ws)
 judged S.Steps ws s e = mapped (printedSteps s) (size-judged S.Steps (λ w. refl) (λ k w. rw (ne-eqb (suc k) 0 (λ z. omega arith))) refl 1024 ws)
 judged S.Name ws s e = mapped (printedName s) (name-judged (namesOf (asFarAs7 s)) ws)
@@ -119,11 +119,11 @@ right-words (suc k) r e =
     let z : _≡_ {A = ℕ} 0 1 = cc in
     absurd (omega arith)
 
-said-something : {A : Type 0} {o : Option A} {wrong : ℕ} → Judged o wrong → wrong ≡ 0 → o ≡ none → ⊥
+said-something : {A : Type 0} {o : Option A} {wrong : ℕ} → Agrees o wrong → wrong ≡ 0 → o ≡ none → ⊥
 said-something (right a e z) y q = Option·some-ne-none a (sym e ∙ q)
 said-something (not-right e h) y q = omega arith
 
-said-nothing : {A : Type 0} {o : Option A} {wrong : ℕ} → Judged o wrong → (wrong ≡ 0 → ⊥) → o ≡ none
+said-nothing : {A : Type 0} {o : Option A} {wrong : ℕ} → Agrees o wrong → (wrong ≡ 0 → ⊥) → o ≡ none
 said-nothing (right a e z) n = absurd (n z)
 said-nothing (not-right e h) n = e
 

@@ -1,6 +1,6 @@
 -- What the program answers on the plan Y, and what other words come to, by computation.
 use mathlib.Core.Path.{_≡_, refl}
-use mathlib.Core.List.{List, [], _∷_, flatMap, flatten}
+use mathlib.Core.List.{List, [], _∷_, map, flatMap, flatten}
 use mathlib.Core.Option.{none, some, orElse}
 use Prim.Native.Nat.{ℕ}
 use Prim.Native.String.{_++_}
@@ -19,7 +19,7 @@ use Rattle.command_line.specs.declared.Reply.the-variants as R
 use Rattle.command_line.specs.Words.{serviceSaid, isNumeral, isNameWord, numberSaid, eventSaid}
 use Rattle.command_line.specs.WordRow.{begunBy, wordsIn}
 use Rattle.command_line.specs.Program.{sizeSaid, oneEventSaid, before, eventsSaid, namesOf, answerBy, answerTo, serviceAsked, furtherWords}
-use Rattle.command_line.specs.Replies.{isRefusal, numberFrom, refusalSaid, saysEvent, fitsExplain, fits, leastWords, wrongFrom, isUnknown, wrongWord, helpAsked, explanationAsked, replyBy, replyAsked}
+use Rattle.command_line.specs.Replies.{isRefusal, refusalNames, numberFrom, refusalSaid, saysEvent, takesAfterExplain, takes, leastWords, wrongFrom, isUnknown, wrongWord, helpAsked, explanationAsked, replyBy, replyAsked}
 
 pub record AnswersOnY (y : List ℕ) : Type 0 where
   pub no-word : answerTo [] y
@@ -47,7 +47,7 @@ unfolding begunBy wordsIn
 three-words = refl
 
 -- what words come to
-pub record Replies : Type 0 where
+pub record RepliesToWords : Type 0 where
   pub helped : replyAsked (bytes "help" ∷ []) ≡ R.Help
   pub helped-text : replyAsked (bytes "help" ∷ bytes "text" ∷ []) ≡ R.TextForm
   pub helped-more : replyAsked (bytes "help" ∷ bytes "check" ∷ []) ≡ R.Usage 2
@@ -61,10 +61,12 @@ pub record Replies : Type 0 where
   pub unknown : replyAsked (bytes "chek" ∷ bytes "5" ∷ []) ≡ R.Usage 1
   pub unnamed : replyAsked (bytes "name" ∷ []) ≡ R.Usage 2
   pub no-event : replyAsked (bytes "run" ∷ bytes "ready" ∷ bytes "Brake" ∷ []) ≡ R.Usage 3
+  pub first-of-two : replyAsked (bytes "run" ∷ bytes "Ready" ∷ bytes "Brake" ∷ []) ≡ R.Usage 2
+  pub each-name : map refusalSaid refusalNames ≡ 1 ∷ 2 ∷ 3 ∷ 4 ∷ 5 ∷ 6 ∷ 7 ∷ 8 ∷ 9 ∷ 10 ∷ 11 ∷ 12 ∷ 13 ∷ 14 ∷ []
   pub served : replyAsked (bytes "run" ∷ bytes "ready" ∷ bytes "1" ∷ []) ≡ R.Service
 
-pub replies : Replies
-unfolding every isDigit isLetter isNameByte isName serviceSaid isNumeral isNameWord serviceAsked furtherWords isRefusal numberFrom refusalSaid saysEvent fitsExplain fits leastWords
+pub replies : RepliesToWords
+unfolding every isDigit isLetter isNameByte isName serviceSaid isNumeral isNameWord serviceAsked furtherWords isRefusal numberFrom refusalSaid saysEvent takesAfterExplain takes leastWords
     wrongFrom isUnknown wrongWord helpAsked explanationAsked replyBy replyAsked
 replies =
     record {
@@ -81,5 +83,7 @@ replies =
       unknown = refl;
       unnamed = refl;
       no-event = refl;
+      first-of-two = refl;
+      each-name = refl;
       served = refl;
     }

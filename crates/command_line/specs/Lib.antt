@@ -1,6 +1,5 @@
--- `Words`: what the words of a command line say. `WordRow`: the words in one row of bytes. `Program`: what the program answers to its words. `Replies`: what they come to,
--- which word is wrong.
--- `Examples`: that computed. `Names`: the names of a text in rows.
+-- `Words`: what the words of a command line say. `WordRow`: the words in one row of bytes. `Program`: what the program answers to its words.
+-- `Replies`: what they come to, and which is wrong. `Examples`: that computed. `Names`: the names of a text in rows.
 pub mod Words
 pub mod WordRow
 pub mod Program

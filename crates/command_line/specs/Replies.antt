@@ -48,19 +48,19 @@ unfoldable pub saysEvent : List ℕ → Bool
 saysEvent w = isNameWord w || isNumeral w
 
 -- the refusal, and behind it its two details
-unfoldable pub fitsExplain : ℕ → List ℕ → Bool
-fitsExplain k w = cond (eqb k 0) (leb 1 (refusalSaid w)) (leb k 2 && isNumeral w)
+unfoldable pub takesAfterExplain : ℕ → List ℕ → Bool
+takesAfterExplain k w = cond (eqb k 0) (leb 1 (refusalSaid w)) (leb k 2 && isNumeral w)
 
--- whether this may be the kth word after the service, counted from 0
-unfoldable pub fits : Service → ℕ → List ℕ → Bool
-fits Check k w = eqb k 0 && isNumeral w
-fits Steps k w = eqb k 0 && isNumeral w
-fits Name k w = eqb k 0 && saysEvent w
-fits Run k w = saysEvent w
-fits Thin k w = false
-fits Help k w = eqb k 0 && sameWord w (bytes "text")
-fits Explain k w = fitsExplain k w
-fits Unknown k w = false
+-- whether the service takes this as the kth word after it, counted from 0
+unfoldable pub takes : Service → ℕ → List ℕ → Bool
+takes Check k w = eqb k 0 && isNumeral w
+takes Steps k w = eqb k 0 && isNumeral w
+takes Name k w = eqb k 0 && saysEvent w
+takes Run k w = saysEvent w
+takes Thin k w = false
+takes Help k w = eqb k 0 && sameWord w (bytes "text")
+takes Explain k w = takesAfterExplain k w
+takes Unknown k w = false
 
 -- how many words the service takes at least
 unfoldable pub leastWords : Service → ℕ
@@ -73,10 +73,10 @@ leastWords Help = 0
 leastWords Explain = 1
 leastWords Unknown = 0
 
--- the first word that does not fit, from the kth after the service on, or the one that is missing, by its number on the command line; 0: none
+-- the first word that the service does not take, from the kth after it on, or the one that is missing, by its number on the command line; 0: none
 unfoldable pub wrongFrom : Service → ℕ → List (List ℕ) → ℕ
 wrongFrom a k [] = cond (leb (leastWords a) k) 0 (k + 2)
-wrongFrom a k (w ∷ ws) = cond (fits a k w) (wrongFrom a (k + 1) ws) (k + 2)
+wrongFrom a k (w ∷ ws) = cond (takes a k w) (wrongFrom a (k + 1) ws) (k + 2)
 
 unfoldable pub isUnknown : Service → Bool
 isUnknown Check = false
@@ -100,7 +100,7 @@ unfoldable pub explanationAsked : List (List ℕ) → Reply
 explanationAsked [] = R.Usage 2
 explanationAsked (w ∷ ws) = R.Explanation (refusalSaid w)
 
--- of words that are right
+-- of words that are right; what has no service, or no refusal to explain, is wrong before this is asked
 unfoldable pub replyBy : Service → List (List ℕ) → Reply
 replyBy Check ws = R.Service
 replyBy Steps ws = R.Service

@@ -2,8 +2,8 @@
 ghost use mathlib.Core.Path.{_≡_};
 ghost use Rattle.command_line.specs.WordRow.{wordsIn};
 ghost use Rattle.command_line.specs.Replies.{helpAsked, explanationAsked, replyAsked};
-use super::fitting::refusal_said;
-use super::fitting::wrong_word;
+use super::wrong_words::refusal_said;
+use super::wrong_words::wrong_word;
 use crate::Reply;
 use crate::Service;
 use crate::second_word;

@@ -19,7 +19,7 @@ use numerals::number_said;
 use rows::narrow;
 
 mod asked; // what the words come to
-mod fitting; // which words fit their service
+mod wrong_words; // which words a service takes, and the first that it does not
 mod numerals; // numerals, and the numbers that they write
 
 pub enum Service {

@@ -2,7 +2,7 @@
 use super::put_filled;
 
 // Of the text's form and bounds.
-fn explain_text(refusal: usize, details: &[u8]) {
+fn explain_text(refusal: usize, first: &[u8], second: &[u8]) {
     match refusal {
         1 => put_filled(
             b"misformed: line % has not the form of a line that may stand there, or the\n\
@@ -12,83 +12,94 @@ fn explain_text(refusal: usize, details: &[u8]) {
               blank line or a comment; a capital, an underscore or over 16 bytes in a name; a\n\
               figure of four digits or with a leading zero; a step line after a machine line.\n\
               ./split help text shows the form.\n",
-            details,
+            first,
+            second,
         ),
         2 => put_filled(
-            b"oversize: line % breaks a bound, or there is no machine there; line 0 is the\n\
-              whole text, over 32768 bytes.\n\
+            b"oversize: line % breaks a bound, or the text ends there and has no machine. Line\n\
+              0 stands for the whole text, over 32768 bytes.\n\
               Keep to 32768 bytes, 1 to 256 states, 64 events, 1024 steps, 1 to 16 machines\n\
               and 64 places in a machine. ./split help text says how to check a plan alone.\n",
-            details,
+            first,
+            second,
         ),
         3 => put_filled(
             b"stranger: line % names a state not below the count, an event not on line 2,\n\
               or one event twice.\n\
               Declare the event once on line 2, or correct the state or event on line %.\n",
-            details,
+            first,
+            second,
         ),
         _ => {}
     }
 }
 
 // Of the plan.
-fn explain_plan(refusal: usize, details: &[u8]) {
+fn explain_plan(refusal: usize, first: &[u8], second: &[u8]) {
     match refusal {
         4 => put_filled(
             b"standstill: the step on line % ends in the state where it began.\n\
               Take the step out, or lead it to another state.\n",
-            details,
+            first,
+            second,
         ),
         5 => put_filled(
             b"fork: the step on line % has the same state and event as that on line #.\n\
               Give one of the two another event, or take one out.\n",
-            details,
+            first,
+            second,
         ),
         6 => put_filled(
             b"idle event: no step has event %.\n\
               Add a step of event %, or take it off line 2.\n",
-            details,
+            first,
+            second,
         ),
         7 => put_filled(
             b"unreached: no steps lead from state 0 to state %.\n\
-              Add the step that leads there, or take it out and number the others anew.\n",
-            details,
+              Add the step that leads there, or take state % out and number the others anew.\n",
+            first,
+            second,
         ),
         _ => {}
     }
 }
 
 // Of a machine, and of an event on none.
-fn explain_split(refusal: usize, details: &[u8]) {
+fn explain_split(refusal: usize, first: &[u8], second: &[u8]) {
     match refusal {
         8 => put_filled(
             b"doubled: machine % lists state # twice.\n\
               List state # only once in machine %.\n",
-            details,
+            first,
+            second,
         ),
         9 => put_filled(
             b"missing: machine % has no place with state #.\n\
               Put state # into a place of machine %.\n",
-            details,
+            first,
+            second,
         ),
         10 => put_filled(
             b"uneven: a place of machine % is no region: some steps of event # cross its\n\
               border, and not all alike.\n\
               Move states between the places of machine % until all steps of event # enter\n\
               a place, all leave it, or none does either.\n",
-            details,
+            first,
+            second,
         ),
         11 => put_filled(
             b"unheld: event % is on no machine, so the machines together never run it.\n\
               Add a machine in which the steps of event % lead from one place to another.\n",
-            details,
+            first,
+            second,
         ),
         _ => {}
     }
 }
 
 // Of closure, and of the call.
-fn explain_rest(refusal: usize, details: &[u8]) {
+fn explain_rest(refusal: usize, first: &[u8], second: &[u8]) {
     match refusal {
         12 => put_filled(
             b"open: in state # the machines are ready for event %, and the plan is not.\n\
@@ -97,26 +108,29 @@ fn explain_rest(refusal: usize, details: &[u8]) {
               steps of event % leave holds state #, no split will do. Then cut the event in\n\
               two and hold a machine in a place between, as examples/gantry.plan does with\n\
               hook-down and hook-up; examples/README.md shows it step by step.\n",
-            details,
+            first,
+            second,
         ),
         13 => put_filled(
             b"short sheet: what was lent is too short for the answer, which needs size %.\n\
               Lend % bytes for a sheet, or % records for steps.\n",
-            details,
+            first,
+            second,
         ),
         14 => put_filled(
             b"odd call: the event at position % of the list, from 0, is not declared.\n\
               Give the name of an event of line 2, or a number below the count of events.\n",
-            details,
+            first,
+            second,
         ),
         _ => {}
     }
 }
 
-// The details are a row of words, none, one or two.
-pub fn put_explanation(refusal: usize, details: &[u8]) {
-    explain_text(refusal, details);
-    explain_plan(refusal, details);
-    explain_split(refusal, details);
-    explain_rest(refusal, details);
+// A detail that is not said is empty.
+pub fn put_explanation(refusal: usize, first: &[u8], second: &[u8]) {
+    explain_text(refusal, first, second);
+    explain_plan(refusal, first, second);
+    explain_split(refusal, first, second);
+    explain_rest(refusal, first, second);
 }

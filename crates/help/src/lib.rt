@@ -1,8 +1,6 @@
 // What the program says of itself: which word is wrong, help, how a text is written, and what each refusal means.
 ghost use Prim.Native.Nat.{_≤_};
 ghost use lib.ListN.{length};
-use command_line::word_begin;
-use command_line::word_end;
 pub use explanations::put_explanation;
 use libc::STDERR_FILENO;
 use libc::STDOUT_FILENO;
@@ -13,13 +11,13 @@ fn put_error(words: &[u8]) {
     io::write_all(STDERR_FILENO, words);
 }
 
-fn put_usage_line() {
+fn put_usage() {
     put_error(
-        b"; usage: ./split [check [LENT] | steps [LENT] | name EVENT | run EVENT.. | thin | help [text] | explain REFUSAL [A [B]]] < TEXT\n",
+        b"; usage: ./split [check [LENT] | steps [LENT] | name EVENT | run [EVENT..] | thin | help [text] | explain REFUSAL [A [B]]] < TEXT, or FILE\n",
     );
 }
 
-// A word that can be shown in a line: 1 to 40 bytes that print.
+// A word that can be shown in a line: 1 to 40 bytes from ! to ~.
 fn is_plain(word: &[u8]) -> bool {
     let mut i = 0;
     while i < word.len() {
@@ -34,30 +32,28 @@ fn is_plain(word: &[u8]) -> bool {
     (1 <= i) & (i <= 40)
 }
 
-fn put_shown(word: &[u8]) {
+// One line, to standard error, and nothing is answered: a word is wrong, one is missing, or the words are too long to be read.
+pub fn put_wrong(number: usize, word: &[u8]) {
+    put_error(b"split: word ");
+    io::print_decimal(STDERR_FILENO, number as u64);
+    put_error(b" is wrong");
     if is_plain(word) {
         put_error(b": ");
         put_error(word);
     }
+    put_usage();
 }
 
-// One line, to standard error: nothing is answered. The row begins with the wrong word, and is empty where one is missing.
-pub fn put_usage(number: usize, row: &[u8]) {
+pub fn put_missing(number: usize) {
     put_error(b"split: word ");
     io::print_decimal(STDERR_FILENO, number as u64);
-    let end = word_end(row, 0);
-    if row.len() == 0 {
-        put_error(b" is missing");
-    } else {
-        put_error(b" is wrong");
-    }
-    put_shown(&row[..end]);
-    put_usage_line();
+    put_error(b" is missing");
+    put_usage();
 }
 
-pub fn put_too_many_words() {
+pub fn put_too_long() {
     put_error(b"split: the words are too long to be read");
-    put_usage_line();
+    put_usage();
 }
 
 // The services and the refusals, in a screen.
@@ -70,14 +66,15 @@ pub fn put_help() {
           \x20 ./split check [LENT]  the boards' sheet, in LENT bytes (32768)\n\
           \x20 ./split steps [LENT]  the plan's steps by number, in LENT records (1024)\n\
           \x20 ./split name EVENT    the name of an event\n\
-          \x20 ./split run EVENT..   runs the events, in this order, on the machines together\n\
+          \x20 ./split run [EVENT..] runs the events, in this order, on the machines together\n\
           \x20 ./split thin          drops machines that add nothing, and lists those kept\n\
           \x20 ./split help [text]   this screen; with text: how a text is written\n\
           \x20 ./split explain REFUSAL [A [B]]  what it means, and what to do about it\n\
           \n\
           EVENT is a name, or a number counted from 0 as line 2 lists the events.\n\
-          The plan may also be a file: a word with a dot or a slash, or -f FILE.\n\
-          Status 0: answered, 1: refused, 2: no call, or nothing could be read or written.\n\
+          The text may also be a file: a word with a dot or a slash, or -f FILE. Words are\n\
+          counted without it. Status 0: answered, 1: refused, 2: no call, or nothing could\n\
+          be read or written. --version: the commit and the kit; -h, --help: this screen.\n\
           \n\
           (refused N A B) says why a call is refused; REFUSAL is N or its (first) word:\n\
           \x20  1 misformed   line A                   8 doubled     machine A, state B\n\
@@ -112,16 +109,14 @@ pub fn put_text_form() {
           \n\
           A plan can be checked before there is a split: end it with one machine of one\n\
           place with all states, here (machine (0 1 2 3)). ./split steps then checks the\n\
-          plan, as far as refusal 7; ./split refuses it by 11, as no event is on it yet.\n",
+          plan, as far as refusal 7; ./split refuses it by 11 if it has an event.\n",
     );
 }
 
-// The detail with this number, or the letter that stands for it.
-fn put_detail(number: usize, letter: &[u8], details: &[u8]) {
-    let at = word_begin(details, number);
-    let end = word_end(details, at);
-    if at < end {
-        io::write_all(STDOUT_FILENO, &details[at..end]);
+// A detail, or the letter that stands for it.
+fn put_detail(detail: &[u8], letter: &[u8]) {
+    if detail.len() > 0 {
+        io::write_all(STDOUT_FILENO, detail);
     } else {
         io::write_all(STDOUT_FILENO, letter);
     }
@@ -146,16 +141,16 @@ fn detail_at(text: &[u8], from: usize) -> usize
 }
 
 // A text with the first detail for each % and the second for each #.
-fn put_filled(text: &[u8], details: &[u8]) {
+fn put_filled(text: &[u8], first: &[u8], second: &[u8]) {
     let mut from = 0;
     while from < text.len() {
         let at = detail_at(text, from);
         io::write_all(STDOUT_FILENO, &text[from..at]);
         if at < text.len() {
             if text[at] == b'%' {
-                put_detail(1, b"A", details);
+                put_detail(first, b"A");
             } else {
-                put_detail(2, b"B", details);
+                put_detail(second, b"B");
             }
         }
         from = at + 1;

@@ -5,16 +5,21 @@ ghost use mathlib.Core.List.{[], _∷_, _++_};
 ghost use lib.ListN.{length};
 ghost use Rattle.io.specs.Counts.{Counts};
 ghost use Rattle.writers.specs.Written.{Writes};
+ghost use Rattle.command_line.specs.declared.Reply.the-variants as R;
+ghost use Rattle.command_line.specs.WordRow.{wordsIn};
+ghost use Rattle.command_line.specs.Replies.{replyAsked};
 ghost use Rattle.split.specs.Gathered.{Gathers};
 use answering::answer;
 use command_line::Reply;
 use command_line::reply_asked;
 use command_line::word_begin;
+use command_line::word_end;
 use help::put_explanation;
 use help::put_help;
+use help::put_missing;
 use help::put_text_form;
-use help::put_too_many_words;
-use help::put_usage;
+use help::put_too_long;
+use help::put_wrong;
 use libc::STDIN_FILENO;
 use libc::STDOUT_FILENO;
 use model::MAX_TEXT;
@@ -67,8 +72,10 @@ fn read_text(text: &mut [u8]) -> usize
     io::read_full(STDIN_FILENO, text)
 }
 
-// The words are those of a service, so there is an answer (`served`).
-fn serve(words: &mut [u8]) {
+// Words of a service have an answer, whatever the text (`served`).
+fn serve(words: &mut [u8])
+    requires { ⌜ replyAsked (wordsIn (now words)) ≡ R.Service ⌝ }
+{
     let mut text = [0u8; TEXT_ROOM];
     let n = read_text(&mut text);
     let mut out = [0u8; MAX_TEXT];
@@ -76,16 +83,31 @@ fn serve(words: &mut [u8]) {
     io::write_all(STDOUT_FILENO, &out[..size]);
 }
 
-// The word with this number, and those after it.
-fn tell_wrong(words: &[u8], number: usize) {
+fn tell_wrong(words: &[u8], number: usize)
+    requires { ⌜ replyAsked (wordsIn (now words)) ≡ R.Usage number ⌝ }
+{
     let at = word_begin(words, number);
-    put_usage(number, &words[at..]);
+    if at < words.len() {
+        let end = word_end(words, at);
+        put_wrong(number, &words[at..end]);
+    } else {
+        put_missing(number);
+    }
 }
 
 // The details are the third word and the fourth.
-fn explain(words: &[u8], refusal: usize) {
-    let at = word_begin(words, 3);
-    put_explanation(refusal, &words[at..]);
+fn explain(words: &[u8], refusal: usize)
+    requires { ⌜ replyAsked (wordsIn (now words)) ≡ R.Explanation refusal ⌝ }
+{
+    let first = word_begin(words, 3);
+    let first_end = word_end(words, first);
+    let second = word_begin(words, 4);
+    let second_end = word_end(words, second);
+    put_explanation(
+        refusal,
+        &words[first..first_end],
+        &words[second..second_end],
+    );
 }
 
 fn respond(words: &mut [u8]) {
@@ -111,7 +133,7 @@ fn respond_to_many(words: usize) {
     let gathered = gather(words, &mut row);
     match gathered {
         Gathered::Words(n) => respond(&mut row[..n]),
-        Gathered::TooLong => put_too_many_words(),
+        Gathered::TooLong => put_too_long(),
     }
 }
 

@@ -2,18 +2,18 @@
 use Prim.Native.Nat.{_-_}
 use native.Mathlib.Omega.{arith}
 use borrow.Author.Needs.{needs}
-use Rattle.command_line.proofs.Judging.{Passed, passed-none, passed-more, passed-all}
+use Rattle.command_line.proofs.Judging.{WordsBefore, before-first, before-next, before-number}
 use Rattle.command_line.proofs.word_begin.Statement.{statement}
 use Rattle.command_line.proofs.word_begin.Tie as tie
 
 abbrev Inv-loop : tie.InvT-loop
-Inv-loop words number at₀ n₀ at n = Passed number words n at
+Inv-loop words number at₀ n₀ at n = WordsBefore number words n at
 
 abbrev μ-loop : tie.MeasureT-loop
 μ-loop words number at₀ n₀ at n = number - n
 
 loop-holds : tie.Need-loop-holds Inv-loop μ-loop
-loop-holds c = passed-none
+loop-holds c = before-first
 
 sub-second-word : tie.Need-sub-second-word Inv-loop μ-loop
 sub-second-word c = search needs
@@ -37,10 +37,10 @@ loop-less : tie.Need-loop-less Inv-loop μ-loop
 loop-less c = search needs
 
 loop-again : tie.Need-loop-again Inv-loop μ-loop
-loop-again c = passed-more (c .before .before .before .loop .inv) (c .before .before .loop-test .taken) (c .second-word .ensures .0) (c .second-word .ensures .1)
+loop-again c = before-next (c .before .before .before .loop .inv) (c .before .before .loop-test .taken) (c .second-word .ensures .0) (c .second-word .ensures .1)
 
 returns : tie.Need-returns Inv-loop μ-loop
-returns c = passed-all (c .before .loop .inv) (c .loop-test .left)
+returns c = before-number (c .before .loop .inv) (c .loop-test .left)
 
 pub word-begin-spec : {M : Type 1} → statement M
 word-begin-spec =

@@ -6,10 +6,10 @@ use Rattle.help.proofs.put_filled.Statement.{statement}
 use Rattle.help.proofs.put_filled.Tie as tie
 
 abbrev Inv-loop : tie.InvT-loop
-Inv-loop text details from₀ t5 t6 from = from ≤ length text + 1
+Inv-loop text first second from₀ t5 t6 from = from ≤ length text + 1
 
 abbrev μ-loop : tie.MeasureT-loop
-μ-loop text details from₀ t5 t6 from = length text - from
+μ-loop text first second from₀ t5 t6 from = length text - from
 
 loop-holds : tie.Need-loop-holds Inv-loop μ-loop
 loop-holds c = search needs

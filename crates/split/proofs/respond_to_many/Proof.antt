@@ -29,8 +29,8 @@ respond-requires c κs = search needs
 enum-told : tie.Need-enum-told
 enum-told c = search needs
 
-put-too-many-words-requires : tie.Need-put-too-many-words-requires
-put-too-many-words-requires c κs = search needs
+put-too-long-requires : tie.Need-put-too-long-requires
+put-too-long-requires c κs = search needs
 
 returns : tie.Need-returns
 returns c = search needs
@@ -50,6 +50,6 @@ respond-to-many-spec =
     slice-aggregate-respond
     respond-requires
     enum-told
-    put-too-many-words-requires
+    put-too-long-requires
     returns
     returns-2)

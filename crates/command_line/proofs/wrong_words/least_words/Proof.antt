@@ -1,8 +1,8 @@
--- `command_line::fitting::least_words` meets its contract: by the service.
+-- `command_line::wrong_words::least_words` meets its contract: by the service.
 use borrow.Author.Needs.{needs}
 use Rattle.command_line.specs.Replies.{leastWords}
-use Rattle.command_line.proofs.fitting.least_words.Statement.{statement}
-use Rattle.command_line.proofs.fitting.least_words.Tie as tie
+use Rattle.command_line.proofs.wrong_words.least_words.Statement.{statement}
+use Rattle.command_line.proofs.wrong_words.least_words.Tie as tie
 
 enum-told : tie.Need-enum-told
 enum-told c = search needs

@@ -1,9 +1,9 @@
--- `command_line::fitting::refusal_said` meets its contract: each way out is a law of `Judging`.
+-- `command_line::wrong_words::refusal_said` meets its contract: each way out is a law of `Judging`.
 use borrow.Author.Needs.{needs}
 use denote.Ref.{now}
 use Rattle.command_line.proofs.Judging.{named, numbered, numbered-none}
-use Rattle.command_line.proofs.fitting.refusal_said.Statement.{statement}
-use Rattle.command_line.proofs.fitting.refusal_said.Tie as tie
+use Rattle.command_line.proofs.wrong_words.refusal_said.Statement.{statement}
+use Rattle.command_line.proofs.wrong_words.refusal_said.Tie as tie
 
 number-said-requires : tie.Need-number-said-requires
 number-said-requires c κs = search needs

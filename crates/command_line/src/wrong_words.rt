@@ -1,7 +1,7 @@
-// Which words fit the service that they follow, and the first that does not.
+// Which words a service takes, and the first that it does not.
 ghost use mathlib.Core.Path.{_≡_};
 ghost use Rattle.command_line.specs.WordRow.{wordsIn};
-ghost use Rattle.command_line.specs.Replies.{isRefusal, numberFrom, refusalNames, refusalSaid, saysEvent, fitsExplain, fits, leastWords, wrongWord};
+ghost use Rattle.command_line.specs.Replies.{isRefusal, numberFrom, refusalNames, refusalSaid, saysEvent, takesAfterExplain, takes, leastWords, wrongWord};
 use super::numerals::is_numeral;
 use super::numerals::number_said;
 use crate::Said;
@@ -69,8 +69,8 @@ fn says_event(word: &[u8]) -> bool
 }
 
 // The refusal, and behind it its two details.
-fn fits_explain(k: usize, word: &[u8]) -> bool
-    ensures { λ r. ⌜ r ≡ fitsExplain k (now (word .entry)) ⌝ }
+fn takes_after_explain(k: usize, word: &[u8]) -> bool
+    ensures { λ r. ⌜ r ≡ takesAfterExplain k (now (word .entry)) ⌝ }
 {
     if k == 0 {
         return 1 <= refusal_said(word);
@@ -78,9 +78,9 @@ fn fits_explain(k: usize, word: &[u8]) -> bool
     (k <= 2) & is_numeral(word)
 }
 
-// May this be the kth word after the service, counted from 0.
-fn fits(asked: Service, k: usize, word: &[u8]) -> bool
-    ensures { λ r. ⌜ r ≡ fits asked k (now (word .entry)) ⌝ }
+// Does the service take this as the kth word after it, counted from 0.
+fn takes(asked: Service, k: usize, word: &[u8]) -> bool
+    ensures { λ r. ⌜ r ≡ takes asked k (now (word .entry)) ⌝ }
 {
     match asked {
         Service::Check => (k == 0) & is_numeral(word),
@@ -88,7 +88,7 @@ fn fits(asked: Service, k: usize, word: &[u8]) -> bool
         Service::Name => (k == 0) & says_event(word),
         Service::Run => says_event(word),
         Service::Help => (k == 0) & same_word(word, b"text"),
-        Service::Explain => fits_explain(k, word),
+        Service::Explain => takes_after_explain(k, word),
         Service::Thin => false,
         Service::Unknown => false,
     }
@@ -110,7 +110,7 @@ fn least_words(asked: Service) -> usize
     }
 }
 
-// The first word that does not fit, or the one that is missing, by its number on the command line, where the service is word 1; 0: none.
+// The first word that its service does not take, or the one that is missing, by its number on the command line, where the service is word 1; 0: none.
 pub fn wrong_word(words: &[u8]) -> usize
     ensures { λ r. ⌜ r ≡ wrongWord (wordsIn (now (words .entry))) ⌝ }
 {
@@ -122,7 +122,7 @@ pub fn wrong_word(words: &[u8]) -> usize
     let mut at = second_word(words);
     while at < words.len() {
         let end = word_end(words, at);
-        if !fits(asked, k, &words[at..end]) {
+        if !takes(asked, k, &words[at..end]) {
             return k + 2;
         }
         k += 1;

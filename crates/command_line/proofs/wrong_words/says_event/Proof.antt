@@ -1,8 +1,8 @@
--- `command_line::fitting::says_event` meets its contract: its two tests are the contract's.
+-- `command_line::wrong_words::says_event` meets its contract: its two tests are the contract's.
 use borrow.Author.Needs.{needs}
 use Rattle.command_line.specs.Replies.{saysEvent}
-use Rattle.command_line.proofs.fitting.says_event.Statement.{statement}
-use Rattle.command_line.proofs.fitting.says_event.Tie as tie
+use Rattle.command_line.proofs.wrong_words.says_event.Statement.{statement}
+use Rattle.command_line.proofs.wrong_words.says_event.Tie as tie
 
 is-name-requires : tie.Need-is-name-requires
 is-name-requires c κs = search needs

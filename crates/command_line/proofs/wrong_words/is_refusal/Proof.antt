@@ -1,8 +1,8 @@
--- `command_line::fitting::is_refusal` meets its contract: its two tests are the contract's.
+-- `command_line::wrong_words::is_refusal` meets its contract: its two tests are the contract's.
 use borrow.Author.Tests.{le-leb, lt-leb}
 use Rattle.command_line.specs.Replies.{isRefusal}
-use Rattle.command_line.proofs.fitting.is_refusal.Statement.{statement}
-use Rattle.command_line.proofs.fitting.is_refusal.Tie as tie
+use Rattle.command_line.proofs.wrong_words.is_refusal.Statement.{statement}
+use Rattle.command_line.proofs.wrong_words.is_refusal.Tie as tie
 
 returns : tie.Need-returns
 unfolding isRefusal

@@ -1,8 +1,8 @@
--- `command_line::fitting::fits` meets its contract: by the service.
+-- `command_line::wrong_words::takes` meets its contract: by the service.
 use borrow.Author.Needs.{needs}
-use Rattle.command_line.specs.Replies.{fits}
-use Rattle.command_line.proofs.fitting.fits.Statement.{statement}
-use Rattle.command_line.proofs.fitting.fits.Tie as tie
+use Rattle.command_line.specs.Replies.{takes}
+use Rattle.command_line.proofs.wrong_words.takes.Statement.{statement}
+use Rattle.command_line.proofs.wrong_words.takes.Tie as tie
 
 enum-told : tie.Need-enum-told
 enum-told c = search needs
@@ -40,8 +40,8 @@ same-word-requires c κs = search needs
 enum-told-6 : tie.Need-enum-told-6
 enum-told-6 c = search needs
 
-fits-explain-requires : tie.Need-fits-explain-requires
-fits-explain-requires c κs = search needs
+takes-after-explain-requires : tie.Need-takes-after-explain-requires
+takes-after-explain-requires c κs = search needs
 
 enum-told-7 : tie.Need-enum-told-7
 enum-told-7 c = search needs
@@ -50,39 +50,39 @@ enum-told-8 : tie.Need-enum-told-8
 enum-told-8 c = search needs
 
 returns : tie.Need-returns
-unfolding fits
+unfolding takes
 returns c = rw (c .before .enum-told .given .1, c .is-numeral .ensures)
 
 returns-2 : tie.Need-returns-2
-unfolding fits
+unfolding takes
 returns-2 c = rw (c .before .enum-told2 .given .1, c .is-numeral2 .ensures)
 
 returns-3 : tie.Need-returns-3
-unfolding fits
+unfolding takes
 returns-3 c = rw (c .before .enum-told3 .given .1, c .says-event .ensures)
 
 returns-4 : tie.Need-returns-4
-unfolding fits
+unfolding takes
 returns-4 c = rw (c .before .enum-told4 .given .1, c .says-event2 .ensures)
 
 returns-5 : tie.Need-returns-5
-unfolding fits
+unfolding takes
 returns-5 c = rw (c .before .before .enum-told5 .given .1, c .same-word .ensures)
 
 returns-6 : tie.Need-returns-6
-unfolding fits
-returns-6 c = rw (c .before .enum-told6 .given .1, c .fits-explain .ensures)
+unfolding takes
+returns-6 c = rw (c .before .enum-told6 .given .1, c .takes-after-explain .ensures)
 
 returns-7 : tie.Need-returns-7
-unfolding fits
+unfolding takes
 returns-7 c = rw (c .enum-told7 .given .1)
 
 returns-8 : tie.Need-returns-8
-unfolding fits
+unfolding takes
 returns-8 c = rw (c .enum-told8 .given .1)
 
-pub fits-spec : {M : Type 1} → statement M
-fits-spec =
+pub takes-spec : {M : Type 1} → statement M
+takes-spec =
     tie.close
     (tie.spec
     enum-told
@@ -97,7 +97,7 @@ fits-spec =
     slice-aggregate-same-word
     same-word-requires
     enum-told-6
-    fits-explain-requires
+    takes-after-explain-requires
     enum-told-7
     enum-told-8
     returns

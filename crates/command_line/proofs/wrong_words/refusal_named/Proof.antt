@@ -1,11 +1,11 @@
--- `command_line::fitting::refusal_named` meets its contract: the row has the names in their order.
+-- `command_line::wrong_words::refusal_named` meets its contract: the row has the names in their order.
 use mathlib.Core.Path.{ap, _∙_}
 use borrow.Author.Needs.{needs}
 use denote.Ref.{now}
 use Rattle.command_line.specs.Replies.{numberFrom}
 use Rattle.command_line.proofs.Judging.{names-in-row}
-use Rattle.command_line.proofs.fitting.refusal_named.Statement.{statement}
-use Rattle.command_line.proofs.fitting.refusal_named.Tie as tie
+use Rattle.command_line.proofs.wrong_words.refusal_named.Statement.{statement}
+use Rattle.command_line.proofs.wrong_words.refusal_named.Tie as tie
 
 slice-aggregate-number-in : tie.Need-slice-aggregate-number-in
 slice-aggregate-number-in c = search needs

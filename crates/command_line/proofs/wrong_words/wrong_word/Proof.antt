@@ -1,14 +1,14 @@
--- `command_line::fitting::wrong_word` meets its contract: each turn passes a word that fits. The laws are in `Judging`.
+-- `command_line::wrong_words::wrong_word` meets its contract: each turn passes a word that the service takes. The laws are in `Judging`.
 use Prim.Native.Nat.{_-_}
 use borrow.Author.Needs.{needs}
 use denote.Ref.{now}
 use lib.ListN.{length}
-use Rattle.command_line.proofs.Judging.{Fitted, fitted-start, unfit, fitted-more, one-missing, all-fit, first-wrong, wrong-behind}
-use Rattle.command_line.proofs.fitting.wrong_word.Statement.{statement}
-use Rattle.command_line.proofs.fitting.wrong_word.Tie as tie
+use Rattle.command_line.proofs.Judging.{Right, right-start, wrong-here, right-more, one-missing, all-right, first-wrong, wrong-behind}
+use Rattle.command_line.proofs.wrong_words.wrong_word.Statement.{statement}
+use Rattle.command_line.proofs.wrong_words.wrong_word.Tie as tie
 
 abbrev Inv-loop : tie.InvT-loop
-Inv-loop words asked k₀ at₀ k at = Fitted asked words k at
+Inv-loop words asked k₀ at₀ k at = Right asked words k at
 
 abbrev μ-loop : tie.MeasureT-loop
 μ-loop words asked k₀ at₀ k at = length words - at
@@ -26,22 +26,22 @@ second-word-requires : tie.Need-second-word-requires Inv-loop μ-loop
 second-word-requires c κs = search needs
 
 loop-holds : tie.Need-loop-holds Inv-loop μ-loop
-loop-holds c = fitted-start (c .second-word .ensures .0) (c .second-word .ensures .1)
+loop-holds c = right-start (c .second-word .ensures .0) (c .second-word .ensures .1)
 
 word-end-requires : tie.Need-word-end-requires Inv-loop μ-loop
 word-end-requires c κs = search needs
 
-sub-fits : tie.Need-sub-fits Inv-loop μ-loop
-sub-fits c = search needs
+sub-takes : tie.Need-sub-takes Inv-loop μ-loop
+sub-takes c = search needs
 
-part-fits-start : tie.Need-part-fits-start Inv-loop μ-loop
-part-fits-start c = search needs
+part-takes-start : tie.Need-part-takes-start Inv-loop μ-loop
+part-takes-start c = search needs
 
-part-fits-end : tie.Need-part-fits-end Inv-loop μ-loop
-part-fits-end c = search needs
+part-takes-end : tie.Need-part-takes-end Inv-loop μ-loop
+part-takes-end c = search needs
 
-fits-requires : tie.Need-fits-requires Inv-loop μ-loop
-fits-requires c κs = search needs
+takes-requires : tie.Need-takes-requires Inv-loop μ-loop
+takes-requires c κs = search needs
 
 add-result : tie.Need-add-result Inv-loop μ-loop
 add-result c = search needs
@@ -51,7 +51,7 @@ returns-2 c =
     let turn = c .before .before .before .before .before in
     let asked = turn .before .before .before in
     wrong-behind (now (asked .before .before .args .words)) (asked .service-asked .ensures) (turn .before .before .match .keys2)
-    (unfit (turn .loop .inv) (c .before .before .before .before .loop-test .taken) (c .before .before .before .word-end .ensures) (c .before .fits2 .ensures) (c .if1 .taken))
+    (wrong-here (turn .loop .inv) (c .before .before .before .before .loop-test .taken) (c .before .before .before .word-end .ensures) (c .before .takes .ensures) (c .if1 .taken))
 
 add-k : tie.Need-add-k Inv-loop μ-loop
 add-k c = search needs
@@ -64,8 +64,8 @@ loop-less c = search needs
 
 loop-again : tie.Need-loop-again Inv-loop μ-loop
 loop-again c =
-    fitted-more (c .before .before .before .before .before .loop .inv) (c .before .before .before .before .loop-test .taken)
-    (c .before .before .before .word-end .ensures) (c .before .fits2 .ensures) (c .if1 .left)
+    right-more (c .before .before .before .before .before .loop .inv) (c .before .before .before .before .loop-test .taken)
+    (c .before .before .before .word-end .ensures) (c .before .takes .ensures) (c .if1 .left)
 
 least-words-requires : tie.Need-least-words-requires Inv-loop μ-loop
 least-words-requires c κs = search needs
@@ -85,7 +85,7 @@ returns-4 c =
     let turn = c .before .before .before in
     let asked = turn .before .before .before in
     wrong-behind (now (asked .before .before .args .words)) (asked .service-asked .ensures) (turn .before .before .match .keys2)
-    (all-fit (turn .loop .inv) (c .before .before .loop-test .left) (c .before .least-words .ensures) (c .if2 .left))
+    (all-right (turn .loop .inv) (c .before .before .loop-test .left) (c .before .least-words .ensures) (c .if2 .left))
 
 pub wrong-word-spec : {M : Type 1} → statement M
 wrong-word-spec =
@@ -99,10 +99,10 @@ wrong-word-spec =
     second-word-requires
     loop-holds
     word-end-requires
-    sub-fits
-    part-fits-start
-    part-fits-end
-    fits-requires
+    sub-takes
+    part-takes-start
+    part-takes-end
+    takes-requires
     add-result
     returns-2
     add-k

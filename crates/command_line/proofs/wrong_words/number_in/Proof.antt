@@ -1,10 +1,10 @@
--- `command_line::fitting::number_in` meets its contract: each turn passes a word that is another. The laws are in `Judging`.
+-- `command_line::wrong_words::number_in` meets its contract: each turn passes a word that is another. The laws are in `Judging`.
 use Prim.Native.Nat.{_-_}
 use borrow.Author.Needs.{needs}
 use lib.ListN.{length}
 use Rattle.command_line.proofs.Judging.{Unlike, unlike-start, like, unlike-more, unlike-all}
-use Rattle.command_line.proofs.fitting.number_in.Statement.{statement}
-use Rattle.command_line.proofs.fitting.number_in.Tie as tie
+use Rattle.command_line.proofs.wrong_words.number_in.Statement.{statement}
+use Rattle.command_line.proofs.wrong_words.number_in.Tie as tie
 
 abbrev Inv-loop : tie.InvT-loop
 Inv-loop word row n₀ at₀ n at = Unlike word row n at
