@@ -17,8 +17,9 @@ const NO_EVENTS: &[u8] = b"-1|+1|007|00|01|1.5|0x1|1e3|9x|-|-a|Ready|rEADY|readY
 
 /// Too few words, too many, or not those of any service.
 const NO_CALLS: &str =
-    "name|name 0 1|name ready ready|name Ready x y|run Ready Brake|explain x y|check 5 6|check 300 0|check ready|steps 5 6|steps 5 5|steps ready|\
-    thin 0|thin ready|help 1|help run|help Text|help text text|explain|explain 0|explain 15|explain 01|explain x|\
+    "name|name 0 1|name ready ready|name Ready x y|run Ready Brake|check 5 6|check 300 0|check ready|steps 5 6|\
+    steps 5 5|steps ready|explain x y|thin 0|thin ready|help 1|help run|help Text|help text text|explain|explain 0|\
+    explain 15|explain 01|explain x|\
     explain 1x|explain -1|explain Open|explain idle event|explain 1 x|explain open 1 2 3|explain 12 0 02|Check|checks|\
     chec|sheet|merge 5|ready|0| check|check 0 | check 0|";
 
@@ -143,9 +144,10 @@ const EXPLAINED: [&str; 14] = [
 /// Of the refusal with this number, with these details in place of A and B.
 fn is_explanation(number: usize, details: &[&str], done: &Output) -> bool {
     let text = String::from_utf8_lossy(&done.stdout);
-    let due = ["70", "90"].iter().zip(["A", "B"]).enumerate().fold(EXPLAINED[number - 1].to_string(), |line, (k, (detail, letter))| {
-        if k < details.len() { line } else { line.replace(detail, letter) }
-    });
+    let mut due = EXPLAINED[number - 1].to_string();
+    for (detail, letter) in [("70", "A"), ("90", "B")].into_iter().skip(details.len()) {
+        due = due.replace(detail, letter);
+    }
     is_text(done, 2..=8) && text.starts_with(&due) && !text.contains(['%', '#'])
 }
 
@@ -163,8 +165,9 @@ pub fn compare(program: &Program, watchdog: &Watchdog, report: &Report) {
         }
     }
     let many: Vec<OsString> = [vec!["run".into()], vec!["x".repeat(4096).into(); 356]].concat();
-    let is_too_long = |done: &Output| done.stdout.is_empty() && done.stderr.starts_with(b"split: the words are too long to be read; usage: ");
-    held(&many, 0, "one line on standard error that says that the words are too long", &is_too_long);
+    let too_long = b"split: the words are too long to be read; usage: ";
+    let is_told = |done: &Output| done.stdout.is_empty() && done.stderr.starts_with(too_long);
+    held(&many, 0, "one line on standard error that says that the words are too long", &is_told);
     for turn in 0..texts.len() {
         held(&parted("help"), turn, "at most 24 lines of 80 columns with every service and 1 to 14", &is_help);
         held(&parted("help text"), turn, "at most 24 lines of 80 columns", &|done| is_screen(done));
