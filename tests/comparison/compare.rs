@@ -30,7 +30,6 @@ mod products;
 mod program;
 mod redundant;
 mod report;
-#[allow(dead_code)]
 #[path = "../../include/split.rs"]
 mod split;
 mod subject;

@@ -1,5 +1,6 @@
 -- Words in one row of bytes: the bytes before the next 0 are the first word, and the others stand behind it.
 use Prim.Native.Nat.{ℕ, zero, suc, _+_, _-_, _<_, _≤_}
+use native.Mathlib.Numerals.{add-one}
 use native.Mathlib.Omega.{arith}
 use mathlib.Core.Path.{_≡_, refl, ap, sym, _∙_}
 use mathlib.Core.Logic.{_⊎_, inl, inr}
@@ -14,7 +15,7 @@ use Rattle.model.proofs.Laws.{order}
 use Rattle.command_line.specs.declared.Service.{Service}
 use Rattle.command_line.specs.declared.Service.the-variants.{Check}
 use Rattle.command_line.specs.Words.{serviceSaid}
-use Rattle.command_line.specs.WordRow.{begunBy, wordsIn, WordCut}
+use Rattle.command_line.specs.WordRow.{begunBy, wordsIn, WordCut, BeginsAt}
 use Rattle.command_line.specs.Program.{serviceAsked, furtherWords, sizeSaid, oneEventSaid}
 
 -- ---- the first word
@@ -153,3 +154,52 @@ usual-size s usual h = sym (ap (sizeSaid usual) (no-words s h))
 pub no-event : (s : List ℕ) (names : List (List ℕ)) → length s ≡ 0 → none ≡ oneEventSaid names (wordsIn s)
 unfolding oneEventSaid
 no-event s names h = sym (ap (oneEventSaid names) (no-words s h))
+
+-- ---- the word with a number
+
+further-as : (k : ℕ) (ws : List (List ℕ)) → furtherWords (drop k ws) ≡ drop (suc k) ws
+unfolding furtherWords
+further-as zero [] = refl
+further-as zero (w ∷ ws) = refl
+further-as (suc k) [] = refl
+further-as (suc k) (w ∷ ws) = further-as k ws
+
+-- n - 1 words stand before `at`
+pub record WordsBefore (number : ℕ) (s : List ℕ) (n at : ℕ) : Type 0 where
+  pub one : 1 ≤ n
+  pub near : n - 1 ≤ number - 1
+  pub begun : BeginsAt n s at
+
+pub before-first : {number : ℕ} {s : List ℕ} → WordsBefore number s 1 0
+before-first = record { one = omega arith; near = omega arith; begun = record { most = omega arith; others = refl } }
+
+pub before-next : {number : ℕ} {s : List ℕ} {n at : ℕ} → WordsBefore number s n at → n < number → {size : ℕ} → size ≤ length (take (length s - at) (drop at s))
+    → wordsIn (drop size (take (length s - at) (drop at s))) ≡ furtherWords (wordsIn (take (length s - at) (drop at s))) → WordsBefore number s (n + 1) (at + size)
+before-next {number} {s} {n} {at} p l {size} h e =
+    let whole : take (length s - at) (drop at s) ≡ drop at s = take-all (length s - at) (drop at s) (omega (arith, length-drop at s)) in
+    record {
+      one = omega arith;
+      near = omega arith;
+      begun =
+          record {
+            most = omega (arith, p .begun .most, length-drop at s, ap length whole);
+            others =
+                ap wordsIn (sym (ap (drop size) whole ∙ drop-drop size at s))
+                ∙ e
+                ∙ ap (λ (x : List ℕ). furtherWords (wordsIn x)) whole
+                ∙ ap furtherWords (p .begun .others)
+                ∙ further-drop (n - 1) (wordsIn s)
+                ∙ ap (λ (k : ℕ). drop k (wordsIn s)) (after n (p .one));
+          };
+    }
+  where
+    further-drop : (k : ℕ) (ws : List (List ℕ)) → furtherWords (drop k ws) ≡ drop (k + 1) ws
+    further-drop k ws = further-as k ws ∙ ap (λ (j : ℕ). drop j ws) (sym (add-one k))
+
+    after : (m : ℕ) → 1 ≤ m → m - 1 + 1 ≡ m + 1 - 1
+    after m l = omega arith
+
+pub before-number : {number : ℕ} {s : List ℕ} {n at : ℕ} → WordsBefore number s n at → number ≤ n → BeginsAt number s at
+before-number {number} {s} {n} p h =
+    let z : n - 1 ≡ number - 1 = omega (arith, p .near) in
+    record { most = p .begun .most; others = p .begun .others ∙ ap (λ (k : ℕ). drop k (wordsIn s)) z }

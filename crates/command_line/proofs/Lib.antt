@@ -16,9 +16,3 @@ pub mod Rows
 pub mod Cutting
 -- the events that they say, in the same row
 pub mod Taking
--- words judged one after another
-pub mod Judging
--- what the words come to
-pub mod Replying
--- a service is asked for where there is an answer
-pub mod Serving

@@ -1,6 +1,6 @@
--- What the program answers on the plan Y, and what other words come to, by computation.
+-- What the program answers on the plan Y, by computation.
 use mathlib.Core.Path.{_≡_, refl}
-use mathlib.Core.List.{List, [], _∷_, map, flatMap, flatten}
+use mathlib.Core.List.{List, [], _∷_, flatMap, flatten}
 use mathlib.Core.Option.{none, some, orElse}
 use Prim.Native.Nat.{ℕ}
 use Prim.Native.String.{_++_}
@@ -15,11 +15,9 @@ use Rattle.model.specs.Sheet.{addMove, movesBelow, sheetLine, sheetLines, moveB
 use Rattle.model.specs.Printed.{printedBy, fitting, spaced, printedCheck, nameLine, printedName, ranWord, placesWord, ranLine, printedRun}
 use Rattle.model.specs.Services.{asFarAs7, asFarAs10, asFarAs12, name, runEvents, printed, writtenAnswer, writtenRefusal}
 use Rattle.model.specs.Examples.{Y, Y0, Y1}
-use Rattle.command_line.specs.declared.Reply.the-variants as R
 use Rattle.command_line.specs.Words.{serviceSaid, isNumeral, isNameWord, numberSaid, eventSaid}
 use Rattle.command_line.specs.WordRow.{begunBy, wordsIn}
-use Rattle.command_line.specs.Program.{sizeSaid, oneEventSaid, before, eventsSaid, namesOf, answerBy, answerTo, serviceAsked, furtherWords}
-use Rattle.command_line.specs.Replies.{isRefusal, refusalNames, numberFrom, refusalSaid, saysEvent, takesAfterExplain, takes, leastWords, wrongFrom, isUnknown, wrongWord, helpAsked, explanationAsked, replyBy, replyAsked}
+use Rattle.command_line.specs.Program.{sizeSaid, oneEventSaid, before, eventsSaid, namesOf, answerBy, answerTo}
 
 pub record AnswersOnY (y : List ℕ) : Type 0 where
   pub no-word : answerTo [] y
@@ -45,45 +43,3 @@ answers-on-y = record { no-word = refl; short = refl; named = refl; ran = refl; 
 pub three-words : wordsIn (97 ∷ 98 ∷ 0 ∷ 0 ∷ 99 ∷ []) ≡ (97 ∷ 98 ∷ []) ∷ [] ∷ (99 ∷ []) ∷ []
 unfolding begunBy wordsIn
 three-words = refl
-
--- what words come to
-pub record RepliesToWords : Type 0 where
-  pub helped : replyAsked (bytes "help" ∷ []) ≡ R.Help
-  pub helped-text : replyAsked (bytes "help" ∷ bytes "text" ∷ []) ≡ R.TextForm
-  pub helped-more : replyAsked (bytes "help" ∷ bytes "check" ∷ []) ≡ R.Usage 2
-  pub explained : replyAsked (bytes "explain" ∷ bytes "14" ∷ []) ≡ R.Explanation 14
-  pub explained-name : replyAsked (bytes "explain" ∷ bytes "open" ∷ []) ≡ R.Explanation 12
-  pub explained-details : replyAsked (bytes "explain" ∷ bytes "12" ∷ bytes "0" ∷ bytes "2" ∷ []) ≡ R.Explanation 12
-  pub explained-none : replyAsked (bytes "explain" ∷ []) ≡ R.Usage 2
-  pub explained-0 : replyAsked (bytes "explain" ∷ bytes "0" ∷ []) ≡ R.Usage 2
-  pub explained-15 : replyAsked (bytes "explain" ∷ bytes "15" ∷ []) ≡ R.Usage 2
-  pub explained-three : replyAsked (bytes "explain" ∷ bytes "1" ∷ bytes "2" ∷ bytes "3" ∷ bytes "4" ∷ []) ≡ R.Usage 5
-  pub unknown : replyAsked (bytes "chek" ∷ bytes "5" ∷ []) ≡ R.Usage 1
-  pub unnamed : replyAsked (bytes "name" ∷ []) ≡ R.Usage 2
-  pub no-event : replyAsked (bytes "run" ∷ bytes "ready" ∷ bytes "Brake" ∷ []) ≡ R.Usage 3
-  pub first-of-two : replyAsked (bytes "run" ∷ bytes "Ready" ∷ bytes "Brake" ∷ []) ≡ R.Usage 2
-  pub each-name : map refusalSaid refusalNames ≡ 1 ∷ 2 ∷ 3 ∷ 4 ∷ 5 ∷ 6 ∷ 7 ∷ 8 ∷ 9 ∷ 10 ∷ 11 ∷ 12 ∷ 13 ∷ 14 ∷ []
-  pub served : replyAsked (bytes "run" ∷ bytes "ready" ∷ bytes "1" ∷ []) ≡ R.Service
-
-pub replies : RepliesToWords
-unfolding every isDigit isLetter isNameByte isName serviceSaid isNumeral isNameWord serviceAsked furtherWords isRefusal numberFrom refusalSaid saysEvent takesAfterExplain takes leastWords
-    wrongFrom isUnknown wrongWord helpAsked explanationAsked replyBy replyAsked
-replies =
-    record {
-      helped = refl;
-      helped-text = refl;
-      helped-more = refl;
-      explained = refl;
-      explained-name = refl;
-      explained-details = refl;
-      explained-none = refl;
-      explained-0 = refl;
-      explained-15 = refl;
-      explained-three = refl;
-      unknown = refl;
-      unnamed = refl;
-      no-event = refl;
-      first-of-two = refl;
-      each-name = refl;
-      served = refl;
-    }

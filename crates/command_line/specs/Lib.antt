@@ -1,8 +1,7 @@
 -- `Words`: what the words of a command line say. `WordRow`: the words in one row of bytes. `Program`: what the program answers to its words.
--- `Replies`: what they come to, and which is wrong. `Examples`: that computed. `Names`: the names of a text in rows.
+-- `Examples`: that computed. `Names`: the names of a text in rows.
 pub mod Words
 pub mod WordRow
 pub mod Program
-pub mod Replies
 pub mod Examples
 pub mod Names

@@ -10,16 +10,14 @@ ghost use Rattle.command_line.specs.Words.{sameWord, serviceSaid, isName
 ghost use Rattle.command_line.specs.WordRow.{wordsIn, WordCut, BeginsAt, Lists};
 ghost use Rattle.command_line.specs.Program.{serviceAsked, furtherWords, sizeSaid, oneEventSaid, eventsSaid};
 ghost use Rattle.command_line.specs.Names.{NameRows};
-pub use asked::reply_asked;
 use lexer::NameWord;
 use lexer::Word;
 use lexer::read_literal;
 use lexer::read_name;
-use numerals::number_said;
+pub use numerals::is_numeral;
+pub use numerals::number_said;
 use rows::narrow;
 
-mod asked; // what the words come to
-mod wrong_words; // which words a service takes, and the first that it does not
 mod numerals; // numerals, and the numbers that they write
 
 pub enum Service {
@@ -39,17 +37,8 @@ pub enum Said {
     Number(usize),
 }
 
-// What the program does: it says which word is wrong, what it is, how a text is written or what a refusal means, or it serves.
-pub enum Reply {
-    Usage(usize),
-    Help,
-    TextForm,
-    Explanation(usize),
-    Service,
-}
-
 // Are the two the same bytes.
-fn same_word(a: &[u8], b: &[u8]) -> bool
+pub fn same_word(a: &[u8], b: &[u8]) -> bool
     ensures { λ r. ⌜ r ≡ sameWord (now (a .entry)) (now (b .entry)) ⌝ }
 {
     if a.len() != b.len() {
@@ -96,7 +85,7 @@ fn service_said(word: &[u8]) -> Service
 }
 
 // 1 to 16 name bytes that begin with a letter, and nothing after them.
-fn is_name(word: &[u8]) -> bool
+pub fn is_name(word: &[u8]) -> bool
     ensures { λ r. ⌜ r ≡ isNameWord (now (word .entry)) ⌝ }
 {
     let NameWord::Found {

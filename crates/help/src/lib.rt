@@ -32,10 +32,14 @@ fn is_plain(word: &[u8]) -> bool {
     (1 <= i) & (i <= 40)
 }
 
-// One line, to standard error, and nothing is answered: a word is wrong, one is missing, or the words are too long to be read.
-pub fn put_wrong(number: usize, word: &[u8]) {
+fn put_number(number: usize) {
     put_error(b"split: word ");
     io::print_decimal(STDERR_FILENO, number as u64);
+}
+
+// One line, to standard error, and nothing is answered: a word is wrong, one is missing, or the words are too long to be read.
+pub fn put_wrong(number: usize, word: &[u8]) {
+    put_number(number);
     put_error(b" is wrong");
     if is_plain(word) {
         put_error(b": ");
@@ -45,8 +49,7 @@ pub fn put_wrong(number: usize, word: &[u8]) {
 }
 
 pub fn put_missing(number: usize) {
-    put_error(b"split: word ");
-    io::print_decimal(STDERR_FILENO, number as u64);
+    put_number(number);
     put_error(b" is missing");
     put_usage();
 }

@@ -5,13 +5,11 @@ ghost use mathlib.Core.List.{[], _∷_, _++_};
 ghost use lib.ListN.{length};
 ghost use Rattle.io.specs.Counts.{Counts};
 ghost use Rattle.writers.specs.Written.{Writes};
-ghost use Rattle.command_line.specs.declared.Reply.the-variants as R;
 ghost use Rattle.command_line.specs.WordRow.{wordsIn};
-ghost use Rattle.command_line.specs.Replies.{replyAsked};
+ghost use Rattle.replies.specs.declared.Reply.the-variants as R;
+ghost use Rattle.replies.specs.Replies.{replyAsked};
 ghost use Rattle.split.specs.Gathered.{Gathers};
 use answering::answer;
-use command_line::Reply;
-use command_line::reply_asked;
 use command_line::word_begin;
 use command_line::word_end;
 use help::put_explanation;
@@ -23,6 +21,8 @@ use help::put_wrong;
 use libc::STDIN_FILENO;
 use libc::STDOUT_FILENO;
 use model::MAX_TEXT;
+use replies::Reply;
+use replies::reply_asked;
 use writers::write_bytes;
 
 // One byte more than a text may have is read, so that a longer one is refused.

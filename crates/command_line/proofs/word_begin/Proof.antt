@@ -1,8 +1,8 @@
--- `command_line::word_begin` meets its contract: each turn passes a word. The laws are in `Judging`.
+-- `command_line::word_begin` meets its contract: each turn passes a word. The laws are in `Cutting`.
 use Prim.Native.Nat.{_-_}
 use native.Mathlib.Omega.{arith}
 use borrow.Author.Needs.{needs}
-use Rattle.command_line.proofs.Judging.{WordsBefore, before-first, before-next, before-number}
+use Rattle.command_line.proofs.Cutting.{WordsBefore, before-first, before-next, before-number}
 use Rattle.command_line.proofs.word_begin.Statement.{statement}
 use Rattle.command_line.proofs.word_begin.Tie as tie
 
