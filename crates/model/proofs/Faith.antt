@@ -14,9 +14,9 @@ use Rattle.model.specs.Refusal.{Refusal, passed}
 use Rattle.model.specs.TransitionSystem.{TransitionSystem, systemStep, runs, andThen, systemRuns, transitionsRefusal}
 use Rattle.model.specs.Product.{Move, moveFrom, Ran, effective, fire, fireAll, blocker, runFrom}
 use Rattle.model.specs.Machine.{Machine, Decomposition, places, move, productRuns}
-use Rattle.model.specs.Region.{Walk, Stands, MachinesRun}
+use Rattle.model.specs.Region.{Walk, Arc, Blocks, Stands, MachinesRun}
 use Rattle.model.specs.Services.{whole, blocked, refusedBy, outcomeOf, padded, ranAnswer}
-use Rattle.model.specs.Demands.{OfSystem, SystemRuns, ProductRuns, Faithful, Blocks, Tells, Answers}
+use Rattle.model.specs.Demands.{OfSystem, SystemRuns, ProductRuns, Faithful, Tells, Answers}
 use Rattle.model.proofs.Laws.{dec, eqb-of, cond-true, cond-false}
 use Rattle.model.proofs.Positions.{at-below, at-mem, at-value}
 use Rattle.model.proofs.Bounds.{Within, Listed}
@@ -26,7 +26,8 @@ use Rattle.model.proofs.Simulate.{Covers, runs-same, step-low}
 use Rattle.model.proofs.Running.{RunTells, tells}
 use Rattle.model.proofs.Arcs.{arc-iff}
 use Rattle.model.proofs.Standing.{length-places, stands-at}
-use Rattle.model.proofs.Product.{some-of, system-walk, machines-run}
+use Rattle.model.proofs.Joint.{halts-blocks, lower-passes}
+use Rattle.model.proofs.Product.{moves-arcs, some-of, system-walk, machines-run}
 
 -- a run stays among the states
 pub runs-low : (p : TransitionSystem) → Within p → (es : List ℕ) (s u : ℕ) → s < p .states → runs (systemStep p) s es ≡ some u → u < p .states
@@ -93,47 +94,6 @@ take-runs p (e ∷ es) (suc j) (suc k) s l t = go (systemStep p s e) (λ u x. ta
         → T (isSome (andThen o (λ u. runs (systemStep p) u (take j es)))) → T (isSome (andThen o (λ u. runs (systemStep p) u (take k es))))
     go none ih x = x
     go (some u) ih x = ih u x
-
--- a machine that blocks has the event and stands outside its pre-place
-blocks-outside : (q : ℕ) (o : Option Move) → moveFrom q o ≡ none → (v : Move) × (o ≡ some v) × (¬ (q ≡ v .pre))
-unfolding moveFrom
-blocks-outside q none h = absurd (Option·some-ne-none q h)
-blocks-outside q (some v) h = (v, refl, λ e. Option·some-ne-none (v .post) (sym (cond-true (eqb q (v .pre)) (some (v .post)) none (eqb-of q (v .pre) e)) ∙ h))
-
--- a machine that has the event and does not block stands in its pre-place
-moves-inside : (q : ℕ) (v : Move) → T (isSome (moveFrom q (some v))) → q ≡ v .pre
-unfolding moveFrom isSome
-moves-inside q v t = go (dec (eqb q (v .pre)))
-  where
-    go : T (eqb q (v .pre)) ⊎ T (not (eqb q (v .pre))) → q ≡ v .pre
-    go (inl x) = eqb→eq q (v .pre) x
-    go (inr x) = absurd (rw (cond-false (eqb q (v .pre)) (some (v .post)) none x) at t)
-
-module _ (p : TransitionSystem) (ms : Decomposition) (b : Within p) (g : (m : Machine) → List·Memᴰ m ms → Good p m) (w : (m : Machine) → List·Memᴰ m ms → Listed p m) (qs ps : List ℕ) (told : (j : ℕ) → j < length ms → getD ps j 0 ≡ getD qs j 0) (e k : ℕ) (h : Halts (move p) e ms qs k) where
-  halts-blocks : Blocks p ms ps e k
-  unfolding fire
-  halts-blocks =
-      let m = h .machine in
-      let i = at-mem ms k m (h .numbered) in
-      let o = blocks-outside (getD qs k 0) (move p m e) (h .stops) in
-      record {
-        machine = m;
-        numbered = h .numbered;
-        pre = o .0 .pre;
-        post = o .0 .post;
-        has = arc-iff p m (g m i) b (w m i) e (o .0) .0 (o .1);
-        elsewhere = λ q. o .2 (sym (told k (at-below ms k m (h .numbered))) ∙ q);
-      }
-
-  lower-passes : (j : ℕ) → j < k → ¬ Blocks p ms ps e j
-  unfolding fire
-  lower-passes j l x =
-      let m = x .machine in
-      let i = at-mem ms j m (x .numbered) in
-      let v : Move = record { pre = x .pre; post = x .post } in
-      x .elsewhere
-      (told j (at-below ms j m (x .numbered))
-      ∙ moves-inside (getD qs j 0) v (rw (arc-iff p m (g m i) b (w m i) e v .1 (x .has)) at (h .lower j m l (x .numbered))))
 
 -- zeros after the places
 getD-zeros : (n k : ℕ) → _≡_ {A = ℕ} (getD (replicate n 0) k 0) 0
@@ -223,13 +183,13 @@ answered p ms b f g w c few es d =
     at-end q (halted e a x z) = absurd (Option·some-ne-none (blocker (move p) ms (r .places) e) (sym x ∙ q))
 
     at-stop : (n k : ℕ) → r .ran ≡ n → r .blocked ≡ some k → RunEnd (move p) ms es r
-        → (n < length es) × Tells p ms es n ps × Blocks p ms ps (getD es n 0) k × ((j : ℕ) → j < k → ¬ Blocks p ms ps (getD es n 0) j)
+        → (n < length es) × Tells p ms es n ps × Blocks (Arc p) ms ps (getD es n 0) k × ((j : ℕ) → j < k → ¬ Blocks (Arc p) ms ps (getD es n 0) j)
     at-stop n k q o (ended x y) = absurd (Option·none-ne-some k (sym x ∙ o))
     at-stop n k q o (halted e a x z) = (
       subst (λ (j : ℕ). j < length es) q (at-below es (r .ran) e a),
       run-tells p ms b f g few es r i n q,
-      halts-blocks p ms b g w (r .places) ps told (getD es n 0) k halts,
-      lower-passes p ms b g w (r .places) ps told (getD es n 0) k halts,
+      halts-blocks (move p) (Arc p) ms (moves-arcs p ms b g w) (r .places) ps told (getD es n 0) k halts,
+      lower-passes (move p) (Arc p) ms (moves-arcs p ms b g w) (r .places) ps told (getD es n 0) k halts,
     )
       where
         all-stop : fireAll (move p) e ms (r .places) ≡ none

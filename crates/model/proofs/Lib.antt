@@ -19,6 +19,7 @@ pub mod Running
 -- the published notions: regions, the machine's arcs, the synchronous product
 pub mod Regions
 pub mod Arcs
+pub mod Joint
 pub mod Standing
 pub mod Product
 -- the table: its order, rows 11 and 12, rows 4 to 12

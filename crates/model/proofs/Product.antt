@@ -22,131 +22,20 @@ use Rattle.model.proofs.Reach.{cond-none, deterministic, takes}
 use Rattle.model.proofs.Passed.{Sound, sound-of}
 use Rattle.model.proofs.Regions.{uniform-region, regions-iff}
 use Rattle.model.proofs.Arcs.{on-iff, in-place, in-place-number, arc-of, arc-pre, arc-post, arc-iff, no-arc}
+use Rattle.model.proofs.Joint.{AllMoves, then-some, product-iff, walks-iff}
 use Rattle.model.proofs.Standing.{stands-at, stands-only}
 
--- ---- one event: each machine takes an arc of it, or has none and stays
+-- ---- the machines of a text: their moves are the arcs of the theory
 
-abbrev Moved : TransitionSystem → Machine → ℕ → ℕ → ℕ → Type 0
-Moved p m q e r = Arc p m q e r ⊎ ((¬ HasEvent p m e) × (q ≡ r))
-
-cond-some : (b : Bool) (x r : ℕ) → cond b (some x) none ≡ some r → T b × (x ≡ r)
-cond-some true x r h = (tt, Option·some-injective x r h)
-cond-some false x r h = absurd (Option·none-ne-some r h)
-
-module _ (p : TransitionSystem) (m : Machine) (b : Within p) (g : Good p m) (w : Listed p m) where
-  alphabet-iff : (e : ℕ) → T (inAlphabet (move p) e m) ↔ HasEvent p m e
-  unfolding inAlphabet isSome
-  alphabet-iff e = (λ x. to (move p m e) refl x, λ h. rw (arc-iff p m g b w e (record { pre = h .0; post = h .1 }) .1 (h .2)) tt)
-    where
-      to : (o : Option Move) → move p m e ≡ o → T (isSome o) → HasEvent p m e
-      to none q x = absurd x
-      to (some v) q x = (v .pre, v .post, arc-iff p m g b w e v .0 q)
-
-  one-moved : (q e r : ℕ) → fire (move p) m e q ≡ some r → Moved p m q e r
-  unfolding fire moveFrom
-  one-moved q e r h = go (move p m e) refl h
-    where
-      go : (o : Option Move) → move p m e ≡ o → moveFrom q o ≡ some r → Moved p m q e r
-      go none x y = inr (no-arc p m g b w e x, Option·some-injective q r y)
-      go (some v) x y =
-          let z = cond-some (eqb q (v .pre)) (v .post) r y in
-          inl (subst (λ (k : ℕ). Arc p m k e r) (sym (eqb→eq q (v .pre) (z .0)))
-          (subst (λ (k : ℕ). Arc p m (v .pre) e k) (z .1) (arc-iff p m g b w e v .0 x)))
-
-  moved-one : (q e r : ℕ) → Moved p m q e r → fire (move p) m e q ≡ some r
-  unfolding fire moveFrom
-  moved-one q e r (inl a) = rw (arc-iff p m g b w e (record { pre = q; post = r }) .1 a) (cond-true (eqb q q) (some r) none (eqb-refl q))
-  moved-one q e r (inr n) = go (move p m e) refl
-    where
-      go : (o : Option Move) → move p m e ≡ o → moveFrom q o ≡ some r
-      go none x = ap some (n .1)
-      go (some v) x = absurd (n .0 (v .pre, v .post, arc-iff p m g b w e v .0 x))
-
-both-some : (o : Option ℕ) (l : Option (List ℕ)) (rs : List ℕ) → both o l ≡ some rs → (q : ℕ) × (qs : List ℕ) × (o ≡ some q) × (l ≡ some qs) × (q ∷ qs ≡ rs)
-unfolding both
-both-some none l rs h = absurd (Option·none-ne-some rs h)
-both-some (some q) none rs h = absurd (Option·none-ne-some rs h)
-both-some (some q) (some qs) rs h = (q, qs, refl, refl, Option·some-injective (q ∷ qs) rs h)
-
-all-joint : (p : TransitionSystem) → Within p → (e : ℕ) (ms : Decomposition) → ((m : Machine) → List·Memᴰ m ms → Good p m) → ((m : Machine) → List·Memᴰ m ms → Listed p m)
-    → (qs rs : List ℕ) → fireAll (move p) e ms qs ≡ some rs → Joint p e ms qs rs
-unfolding fireAll
-all-joint p b e [] g w [] rs h = subst (Joint p e [] []) (Option·some-injective [] rs h) done
-all-joint p b e [] g w (q ∷ qs) rs h = absurd (Option·none-ne-some rs h)
-all-joint p b e (m ∷ ms) g w [] rs h = absurd (Option·none-ne-some rs h)
-all-joint p b e (m ∷ ms) g w (q ∷ qs) rs h =
-    let v = both-some (fire (move p) m e q) (fireAll (move p) e ms qs) rs h in
-    subst (Joint p e (m ∷ ms) (q ∷ qs)) (v .4)
-    (go (v .0) (v .1) (one-moved p m b (g m (List·Memᴰ·head refl)) (w m (List·Memᴰ·head refl)) q e (v .0) (v .2))
-    (all-joint p b e ms (λ n k. g n (List·Memᴰ·tail k)) (λ n k. w n (List·Memᴰ·tail k)) qs (v .1) (v .3)))
-  where
-    go : (r : ℕ) (us : List ℕ) → Moved p m q e r → Joint p e ms qs us → Joint p e (m ∷ ms) (q ∷ qs) (r ∷ us)
-    go r us (inl t) j = joins t j
-    go r us (inr n) j = subst (λ (z : ℕ). Joint p e (m ∷ ms) (q ∷ qs) (z ∷ us)) (n .1) (waits (n .0) j)
-
-joint-all : (p : TransitionSystem) → Within p → (e : ℕ) (ms : Decomposition) → ((m : Machine) → List·Memᴰ m ms → Good p m) → ((m : Machine) → List·Memᴰ m ms → Listed p m)
-    → (qs rs : List ℕ) → Joint p e ms qs rs → fireAll (move p) e ms qs ≡ some rs
-unfolding fireAll both
-joint-all p b e ms g w qs rs done = refl
-joint-all p b e ms g w qs rs (joins {m} {q} {r} {ms = ns} {qs = vs} {rs = us} t j) =
-    rw (
-      moved-one p m b (g m (List·Memᴰ·head refl)) (w m (List·Memᴰ·head refl)) q e r (inl t),
-      joint-all p b e ns (λ n k. g n (List·Memᴰ·tail k)) (λ n k. w n (List·Memᴰ·tail k)) vs us j,
-    )
-joint-all p b e ms g w qs rs (waits {m} {q} {ms = ns} {qs = vs} {rs = us} x j) =
-    rw (
-      moved-one p m b (g m (List·Memᴰ·head refl)) (w m (List·Memᴰ·head refl)) q e q (inr (x, refl)),
-      joint-all p b e ns (λ n k. g n (List·Memᴰ·tail k)) (λ n k. w n (List·Memᴰ·tail k)) vs us j,
-    )
-
-effective-some : (b : Bool) (o : Option (List ℕ)) (rs : List ℕ) → cond b o none ≡ some rs → T b × (o ≡ some rs)
-effective-some true o rs h = (tt, h)
-effective-some false o rs h = absurd (Option·none-ne-some rs h)
-
--- 000, Definition 4
-pub product-iff : (p : TransitionSystem) (ms : Decomposition) → Within p → ((m : Machine) → List·Memᴰ m ms → Good p m) → ((m : Machine) → List·Memᴰ m ms → Listed p m)
-    → (qs : List ℕ) (e : ℕ) (rs : List ℕ) → (productStep (move p) ms qs e ≡ some rs) ↔ Product p ms qs e rs
-unfolding productStep effective
-product-iff p ms b g w qs e rs = (to, from)
-  where
-    to : productStep (move p) ms qs e ≡ some rs → Product p ms qs e rs
-    to h =
-        let y = effective-some (effective (move p) ms e) (fireAll (move p) e ms qs) rs h in
-        let v = exists-elim (inAlphabet (move p) e) ms (y .0) in
-        record { machine = v .0; listed = v .1; shared = alphabet-iff p (v .0) b (g (v .0) (v .1)) (w (v .0) (v .1)) e .0 (v .2); joint = all-joint p b e ms g w qs rs (y .1) }
-
-    from : Product p ms qs e rs → productStep (move p) ms qs e ≡ some rs
-    from x =
-        cond-true (effective (move p) ms e) (fireAll (move p) e ms qs) none
-        (exists-intro (inAlphabet (move p) e) ms (x .machine) (x .listed) (alphabet-iff p (x .machine) b (g (x .machine) (x .listed)) (w (x .machine) (x .listed)) e .1 (x .shared)))
-        ∙ joint-all p b e ms g w qs rs (x .joint)
+pub moves-arcs : (p : TransitionSystem) (ms : Decomposition) → Within p → ((m : Machine) → List·Memᴰ m ms → Good p m) → ((m : Machine) → List·Memᴰ m ms → Listed p m) → AllMoves (move p) (Arc p) ms
+moves-arcs p ms b g w m k e v = arc-iff p m (g m k) b (w m k) e v
 
 -- ---- lists of events
-
-then-some : {A : Type 0} (o : Option A) (f : A → Option A) (c : A) → andThen o f ≡ some c → (a : A) × (o ≡ some a) × (f a ≡ some c)
-unfolding andThen
-then-some none f c h = absurd (Option·none-ne-some c h)
-then-some (some a) f c h = (a, refl, h)
 
 pub some-of : {A : Type 0} (o : Option A) → T (isSome o) → (a : A) × (o ≡ some a)
 unfolding isSome
 some-of none t = absurd t
 some-of (some a) t = (a, refl)
-
-pub walks-iff : (p : TransitionSystem) (ms : Decomposition) → Within p → ((m : Machine) → List·Memᴰ m ms → Good p m) → ((m : Machine) → List·Memᴰ m ms → Listed p m)
-    → (es qs rs : List ℕ) → (runs (productStep (move p) ms) qs es ≡ some rs) ↔ ProductWalk p ms qs es rs
-unfolding runs andThen
-walks-iff p ms b g w es qs rs = (to es qs rs, from es qs rs)
-  where
-    to : (es qs rs : List ℕ) → runs (productStep (move p) ms) qs es ≡ some rs → ProductWalk p ms qs es rs
-    to [] qs rs h = subst (ProductWalk p ms qs []) (Option·some-injective qs rs h) stay
-    to (e ∷ es) qs rs h =
-        let v = then-some (productStep (move p) ms qs e) (λ us. runs (productStep (move p) ms) us es) rs h in
-        goes (product-iff p ms b g w qs e (v .0) .0 (v .1)) (to es (v .0) rs (v .2))
-
-    from : (es qs rs : List ℕ) → ProductWalk p ms qs es rs → runs (productStep (move p) ms) qs es ≡ some rs
-    from es qs rs stay = refl
-    from es qs rs (goes {e} {es = ds} {rs = us} x y) = rw (product-iff p ms b g w qs e us .1 x) (from ds us rs y)
 
 pub system-walk : (p : TransitionSystem) → transitionsRefusal [] (p .transitions) ≡ none → (es : List ℕ) (s u : ℕ) → (runs (systemStep p) s es ≡ some u) ↔ Walk p s es u
 unfolding runs andThen
@@ -172,9 +61,9 @@ pub machines-run : (p : TransitionSystem) (ms : Decomposition) → Within p → 
     → (es qs : List ℕ) → (productRuns p ms es ≡ some qs) ↔ MachinesRun p ms es qs
 unfolding productRuns
 machines-run p ms b g w es qs = (
-  λ h. record { start = places ms (p .initial); stands = stands-at p ms g (p .initial) (b .initial); walk = walks-iff p ms b g w es (places ms (p .initial)) qs .0 h },
-  λ x. walks-iff p ms b g w es (places ms (p .initial)) qs .1
-      (subst (λ (us : List ℕ). ProductWalk p ms us es qs) (stands-only p ms g (p .initial) (b .initial) (x .start) (x .stands)) (x .walk)),
+  λ h. record { start = places ms (p .initial); stands = stands-at p ms g (p .initial) (b .initial); walk = walks-iff (move p) (Arc p) ms (moves-arcs p ms b g w) es (places ms (p .initial)) qs .0 h },
+  λ x. walks-iff (move p) (Arc p) ms (moves-arcs p ms b g w) es (places ms (p .initial)) qs .1
+      (subst (λ (us : List ℕ). ProductWalk (Arc p) ms us es qs) (stands-only p ms g (p .initial) (b .initial) (x .start) (x .stands)) (x .walk)),
 )
 
 -- the declared lists are those of the system's events
@@ -217,11 +106,11 @@ derived p ms b g w =
       );
       no-crossing = λ m i e n t k he q j. stay-in m i e n t k he q j (move-view p m e);
       starts = (places ms (p .initial), stands-at p ms g (p .initial) (b .initial));
-      product = product-iff p ms b g w;
+      product = product-iff (move p) (Arc p) ms (moves-arcs p ms b g w);
       walks = machines-run p ms b g w;
     }
   where
-    stay-in : (m : Machine) → List·Memᴰ m ms → (e : ℕ) → ¬ HasEvent p m e → (t : Transition) → List·Memᴰ t (p .transitions) → t .event ≡ e
+    stay-in : (m : Machine) → List·Memᴰ m ms → (e : ℕ) → ¬ HasEvent (Arc p) m e → (t : Transition) → List·Memᴰ t (p .transitions) → t .event ≡ e
         → (q : ℕ) → InPlace m q (t .source) → MoveView p m e → InPlace m q (t .target)
     stay-in m i e n t k he q j (moves u x l hu c) = absurd (n (placeOf m (u .source), placeOf m (u .target), arc-of p m (g m i) b (w m i) e u l hu c))
     stay-in m i e n t k he q j (stays x s) =

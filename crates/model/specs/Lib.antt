@@ -11,7 +11,10 @@ pub mod Text
 pub mod Sheet
 pub mod Table
 pub mod Services
+pub mod Board
+pub mod BoardTable
 pub mod Printed
 pub mod Demands
 pub mod Examples
+pub mod BoardExamples
 pub mod Cases

@@ -1,0 +1,98 @@
+-- Examples of sheets that are read and run, by computation (`boards`). Document 02, slip 1.
+use Prim.Native.Nat.{ℕ, suc}
+use Prim.Native.String.{String}
+use mathlib.Core.Path.{_≡_, refl}
+use mathlib.Core.Bool.{true, false}
+use mathlib.Core.List.{List, [], _∷_, _++_, flatMap}
+use lib.ListN.{length, replicate}
+use Rattle.model.specs.Lists.{exists, every, first, index, isSome, isEmpty}
+use Rattle.model.specs.Refusal.{refuse, refused, passed}
+use Rattle.model.specs.Product.{moveFrom, both, oneMore, inAlphabet, effective, fire, fireAll, productStep, blocker, runFrom}
+use Rattle.model.specs.Bytes.{bytes, isDigit, isLetter, isNameByte, isFigure, isName, digits}
+use Rattle.model.specs.Text.{distinct}
+use Rattle.model.specs.Sheet.{moveBytes, writtenMove, writtenLine, writtenCount, writtenSheet, countForm, moveForm, lineForm}
+use Rattle.model.specs.Services.{lend, Outcome, whole, blocked, refusedBy, outcomeOf, padded, ranAnswer}
+use Rattle.model.specs.Board.{isGoodMove, addName, addNames, namesOn, isGoodLine, machineThen, machinesFrom, countThen, readSheet, rewrite, moveOn, startPlaces, splitNames, runNames, boardRun}
+
+-- the sheet of the plan Y
+abbrev pub ySheet : String
+ySheet = "(accepted 2)\n(machine 0 (places 2) (start 0) (move ready 0 1) (move home 1 0))\n(machine 1 (places 2) (start 0) (move brake 0 1) (move home 1 0))\n"
+
+-- refused by 15 with this line, one byte lent
+unfoldable pub Refuses15 : String → ℕ → Type 0
+Refuses15 s l = rewrite (bytes s) (7 ∷ []) ≡ record { answer = refused (refuse 15 l 0); left = 7 ∷ [] }
+
+-- read, and written again into as many bytes and one more
+unfoldable pub Rewrites : String → Type 0
+Rewrites s = rewrite (bytes s) (replicate (suc (length (bytes s))) 7) ≡ record { answer = passed (length (bytes s)); left = bytes s ++ (7 ∷ []) }
+
+unfoldable pub RunsNames : String → Outcome → List ℕ → Type 0
+RunsNames t o qs = boardRun (bytes ySheet) (bytes t) ≡ record { outcome = o; places = qs }
+
+pub record Boards : Type 0 where
+  pub own : Rewrites "(accepted 2)\n(machine 0 (places 2) (start 0) (move ready 0 1) (move home 1 0))\n(machine 1 (places 2) (start 0) (move brake 0 1) (move home 1 0))\n"
+  pub empty : Refuses15 "" 1
+  pub no-machines : Refuses15 "(accepted 0)\n" 1
+  pub seventeen : Refuses15 "(accepted 17)\n" 1
+  pub only-count : Refuses15 "(accepted 2)\n" 2
+  pub one-missing : Refuses15 "(accepted 2)\n(machine 0 (places 2) (start 0) (move ready 0 1) (move home 1 0))\n" 3
+  pub one-too-many : Refuses15 "(accepted 1)\n(machine 0 (places 2) (start 0) (move ready 0 1) (move home 1 0))\n(machine 1 (places 2) (start 0) (move brake 0 1) (move home 1 0))\n" 3
+  pub not-ended : Refuses15 "(accepted 2)\n(machine 0 (places 2) (start 0) (move ready 0 1) (move home 1 0))\n(machine 1 (places 2) (start 0) (move brake 0 1) (move home 1 0))" 3
+  pub rubbish-after : Refuses15 "(accepted 2)\n(machine 0 (places 2) (start 0) (move ready 0 1) (move home 1 0))\n(machine 1 (places 2) (start 0) (move brake 0 1) (move home 1 0))\nx" 4
+  pub blank-line-after : Refuses15 "(accepted 2)\n(machine 0 (places 2) (start 0) (move ready 0 1) (move home 1 0))\n(machine 1 (places 2) (start 0) (move brake 0 1) (move home 1 0))\n\n" 4
+  pub number-wrong : Refuses15 "(accepted 2)\n(machine 0 (places 2) (start 0) (move ready 0 1) (move home 1 0))\n(machine 0 (places 2) (start 0) (move ready 0 1) (move home 1 0))\n" 3
+  pub start-high : Refuses15 "(accepted 1)\n(machine 0 (places 2) (start 2))\n" 2
+  pub end-high : Refuses15 "(accepted 1)\n(machine 0 (places 2) (start 0) (move a 0 2))\n" 2
+  pub equal-ends : Refuses15 "(accepted 1)\n(machine 0 (places 2) (start 0) (move a 1 1))\n" 2
+  pub named-twice : Refuses15 "(accepted 1)\n(machine 0 (places 3) (start 0) (move a 0 1) (move a 1 2))\n" 2
+  pub no-places : Refuses15 "(accepted 1)\n(machine 0 (places 0) (start 0))\n" 2
+  pub places-65 : Refuses15 "(accepted 1)\n(machine 0 (places 65) (start 0))\n" 2
+  pub other-order : Rewrites "(accepted 1)\n(machine 0 (places 64) (start 63) (move b 63 1) (move a 1 63))\n"
+  pub leading-zero : Refuses15 "(accepted 1)\n(machine 0 (places 02) (start 0))\n" 2
+  pub two-spaces : Refuses15 "(accepted 1)\n(machine 0 (places 2)  (start 0))\n" 2
+  pub net : Refuses15 "(accepted 1)\n(net 0 (marked 0))\n" 2
+  pub all : RunsNames "ready\nbrake\nhome\nhome\n" (blocked 3 0) (replicate 16 0)
+  pub no-names : RunsNames "" whole (replicate 16 0)
+  pub two : RunsNames "brake\nready\n" whole (1 ∷ 1 ∷ replicate 14 0)
+  pub again : RunsNames "ready\nready\n" (blocked 1 0) (1 ∷ replicate 15 0)
+  pub unknown : RunsNames "ready\nbrake\nhomes\n" (refusedBy (refuse 14 2 0)) (replicate 16 0)
+  pub empty-name : RunsNames "ready\n\n" (refusedBy (refuse 14 1 0)) (replicate 16 0)
+  pub not-ended-name : RunsNames "ready\nbrake" (refusedBy (refuse 14 1 0)) (replicate 16 0)
+  pub unknown-before-not-ended : RunsNames "x\nbrake" (refusedBy (refuse 14 0 0)) (replicate 16 0)
+
+pub boards : Boards
+unfolding Refuses15 Rewrites RunsNames exists every first index isSome isEmpty flatMap moveFrom both oneMore inAlphabet effective fire fireAll productStep blocker runFrom isDigit isLetter
+    isNameByte isFigure isName digits distinct moveBytes writtenMove writtenLine writtenCount writtenSheet countForm moveForm lineForm lend outcomeOf padded ranAnswer isGoodMove addName
+    addNames namesOn isGoodLine machineThen machinesFrom countThen readSheet rewrite moveOn startPlaces splitNames runNames boardRun
+boards =
+    record {
+      own = refl;
+      empty = refl;
+      no-machines = refl;
+      seventeen = refl;
+      only-count = refl;
+      one-missing = refl;
+      one-too-many = refl;
+      not-ended = refl;
+      rubbish-after = refl;
+      blank-line-after = refl;
+      number-wrong = refl;
+      start-high = refl;
+      end-high = refl;
+      equal-ends = refl;
+      named-twice = refl;
+      no-places = refl;
+      places-65 = refl;
+      other-order = refl;
+      leading-zero = refl;
+      two-spaces = refl;
+      net = refl;
+      all = refl;
+      no-names = refl;
+      two = refl;
+      again = refl;
+      unknown = refl;
+      empty-name = refl;
+      not-ended-name = refl;
+      unknown-before-not-ended = refl;
+    }
