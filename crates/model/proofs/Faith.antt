@@ -2,29 +2,26 @@
 use Prim.Native.Nat.{ℕ, zero, suc, _-_, _≤_, _<_}
 use native.Mathlib.Omega.{arith}
 use mathlib.Core.Path.{_≡_, refl, ap, sym, _∙_, subst}
-use mathlib.Core.Logic.{_⊎_, inl, inr, _↔_}
-use mathlib.Core.Bool.{not}
+use mathlib.Core.Logic.{_↔_}
 use mathlib.Core.List.{List, [], _∷_, _++_, List·Memᴰ}
 use mathlib.Core.Option.{Option, none, some, Option·map, Option·some-injective, Option·none-ne-some, Option·some-ne-none}
-use lib.Dec.{T, eqb, eqb→eq}
+use lib.Dec.{T}
 use lib.ListN.{length, take, getD, replicate, length-append, length-replicate, List·getD-append}
 use lib.Seq.{take-at}
 use Rattle.model.specs.Lists.{isSome}
 use Rattle.model.specs.Refusal.{Refusal, passed}
 use Rattle.model.specs.TransitionSystem.{TransitionSystem, systemStep, runs, andThen, systemRuns, transitionsRefusal}
-use Rattle.model.specs.Product.{Move, moveFrom, Ran, effective, fire, fireAll, blocker, runFrom}
+use Rattle.model.specs.Product.{Ran, effective, fireAll, blocker, runFrom}
 use Rattle.model.specs.Machine.{Machine, Decomposition, places, move, productRuns}
 use Rattle.model.specs.Region.{Walk, Arc, Blocks, Stands, MachinesRun}
 use Rattle.model.specs.Services.{whole, blocked, refusedBy, outcomeOf, padded, ranAnswer}
 use Rattle.model.specs.Demands.{OfSystem, SystemRuns, ProductRuns, Faithful, Tells, Answers}
-use Rattle.model.proofs.Laws.{dec, eqb-of, cond-true, cond-false}
 use Rattle.model.proofs.Positions.{at-below, at-mem, at-value}
 use Rattle.model.proofs.Bounds.{Within, Listed}
 use Rattle.model.proofs.Places.{Good}
 use Rattle.model.proofs.Together.{step-effective, Halts, blocker-halts, RunEnd, ended, halted, run-end}
 use Rattle.model.proofs.Simulate.{Covers, runs-same, step-low}
 use Rattle.model.proofs.Running.{RunTells, tells}
-use Rattle.model.proofs.Arcs.{arc-iff}
 use Rattle.model.proofs.Standing.{length-places, stands-at}
 use Rattle.model.proofs.Joint.{halts-blocks, lower-passes}
 use Rattle.model.proofs.Product.{moves-arcs, some-of, system-walk, machines-run}

@@ -6,14 +6,14 @@ use mathlib.Core.Bool.{Bool, true, false, not, cond}
 use mathlib.Core.List.{List, [], _∷_, List·Memᴰ, List·Memᴰ·head, List·Memᴰ·tail}
 use mathlib.Core.Option.{Option, none, some, Option·some-injective, Option·none-ne-some, Option·some-ne-none}
 use lib.Dec.{T, eqb, eqb→eq, eqb-refl}
-use lib.ListN.{length, getD}
-use Rattle.model.specs.Lists.{At, isSome}
+use lib.ListN.{length, take, getD}
+use Rattle.model.specs.Lists.{isSome}
 use Rattle.model.specs.TransitionSystem.{runs, andThen}
-use Rattle.model.specs.Product.{Move, moveFrom, both, inAlphabet, effective, fire, fireAll, productStep}
+use Rattle.model.specs.Product.{Move, moveFrom, both, Ran, oneMore, inAlphabet, effective, fire, fireAll, productStep, runFrom}
 use Rattle.model.specs.Region.{HasEvent, Joint, done, joins, waits, Product, ProductWalk, stay, goes, Blocks}
 use Rattle.model.proofs.Laws.{dec, eqb-of, cond-true, cond-false, exists-intro, exists-elim}
 use Rattle.model.proofs.Positions.{at-mem, at-below}
-use Rattle.model.proofs.Together.{Halts}
+use Rattle.model.proofs.Together.{Halts, run-stops, run-goes}
 
 cond-some : (b : Bool) (x r : ℕ) → cond b (some x) none ≡ some r → T b × (x ≡ r)
 cond-some true x r h = (tt, Option·some-injective x r h)
@@ -174,3 +174,21 @@ module _ {M E : Type 0} (moves : M → E → Option Move) (Arcs : M → ℕ → 
           x .elsewhere
           (told j (at-below ms j m (x .numbered))
           ∙ moves-inside (getD qs j 0) v (rw (f m (at-mem ms j m (x .numbered)) e v .1 (x .has)) at (h .lower j m l (x .numbered))))
+
+    -- ---- a list as `runFrom` has it
+
+    pub run-walks : (es : List E) (qs : List ℕ) → ProductWalk Arcs ms qs (take (runFrom moves ms qs es .ran) es) (runFrom moves ms qs es .places)
+    unfolding runFrom oneMore
+    run-walks [] qs = stay
+    run-walks (e ∷ es) qs = go (productStep moves ms qs e) refl (run-walks es)
+      where
+        go : (o : Option (List ℕ)) → productStep moves ms qs e ≡ o → ((rs : List ℕ) → ProductWalk Arcs ms rs (take (runFrom moves ms rs es .ran) es) (runFrom moves ms rs es .places))
+            → ProductWalk Arcs ms qs (take (runFrom moves ms qs (e ∷ es) .ran) (e ∷ es)) (runFrom moves ms qs (e ∷ es) .places)
+        go none h ih = subst (λ (r : Ran). ProductWalk Arcs ms qs (take (r .ran) (e ∷ es)) (r .places)) (sym (run-stops moves ms qs e es h)) stay
+        go (some rs) h ih =
+            subst (λ (r : Ran). ProductWalk Arcs ms qs (take (r .ran) (e ∷ es)) (r .places)) (sym (run-goes moves ms qs rs e es h)) (goes (product-iff qs e rs .0 h) (ih rs))
+
+    pub walk-runs : (es : List E) (qs us : List ℕ) → ProductWalk Arcs ms qs es us → runFrom moves ms qs es ≡ record { ran = length es; blocked = none; places = us }
+    unfolding runFrom oneMore
+    walk-runs es qs us stay = refl
+    walk-runs es qs us (goes {e} {es = ds} {rs = rs} x y) = run-goes moves ms qs rs e ds (product-iff qs e rs .1 x) ∙ ap oneMore (walk-runs ds rs us y)

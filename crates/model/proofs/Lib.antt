@@ -41,6 +41,18 @@ pub mod Whole
 pub mod Faith
 pub mod Kept
 pub mod Differs
+-- the sheets that boards read: names and good lines, row 15; moves; lists of names; the two calls; the sheet of a text, and the board that runs it
+pub mod OneEvent
+pub mod SheetNames
+pub mod GoodLines
+pub mod Loading
+pub mod SheetMoves
+pub mod NameLists
+pub mod BoardCalls
+pub mod BoardNames
+pub mod BoardRuns
+pub mod OwnSheets
+pub mod OwnRuns
 -- the services and the demands
 pub mod Cases
 pub mod Verdicts

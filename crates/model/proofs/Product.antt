@@ -1,18 +1,17 @@
 -- The machines past 10 are those of the published theory, and running together is their synchronous product.
 use Prim.Native.Nat.{ℕ, _<_}
-use mathlib.Core.Path.{_≡_, refl, ap, sym, _∙_, subst, subst₂}
-use mathlib.Core.Logic.{_⊎_, inl, inr, _↔_}
-use mathlib.Core.Bool.{Bool, true, false, not, cond}
+use mathlib.Core.Path.{_≡_, refl, sym, _∙_, subst, subst₂}
+use mathlib.Core.Logic.{_↔_}
+use mathlib.Core.Bool.{not}
 use mathlib.Core.List.{List, [], _∷_, _++_, List·Memᴰ, List·Memᴰ·head, List·Memᴰ·tail, flatten}
 use mathlib.Core.Option.{Option, none, some, Option·some-injective, Option·none-ne-some}
-use lib.Dec.{T, eqb, ltb, ltb→lt, lt→ltb, eqb→eq, eqb-refl}
+use lib.Dec.{T, eqb, ltb, ltb→lt, lt→ltb}
 use Rattle.model.specs.Lists.{isSome, elem}
 use Rattle.model.specs.TransitionSystem.{Transition, TransitionSystem, systemStep, runs, andThen, systemRuns, declared, transitionRefusal, transitionsRefusal, systemRefusal}
-use Rattle.model.specs.Product.{Move, moveFrom, both, inAlphabet, effective, fire, fireAll, productStep}
 use Rattle.model.specs.Machine.{Machine, Decomposition, placeOf, places, move, productRuns, unplacedState, nonuniformEvent}
-use Rattle.model.specs.Region.{Walk, stay, goes, IsTransitionSystem, IsRegion, InPlace, IsMachine, Arc, HasEvent, Joint, done, joins, waits, Product, ProductWalk, MachinesRun}
+use Rattle.model.specs.Region.{Walk, stay, goes, IsTransitionSystem, IsRegion, InPlace, IsMachine, Arc, HasEvent, ProductWalk, MachinesRun}
 use Rattle.model.specs.Demands.{Derived, OfSystem}
-use Rattle.model.proofs.Laws.{not-T, contra, eqb-of, cond-true, exists-intro, exists-elim, every-elim, every-intro, orElse-none, none-lowest}
+use Rattle.model.proofs.Laws.{not-T, contra, eqb-of, every-elim, every-intro, orElse-none, none-lowest}
 use Rattle.model.proofs.Positions.{at-mem}
 use Rattle.model.proofs.Bounds.{Within, Listed}
 use Rattle.model.proofs.Places.{Good, elem-flatten}
@@ -21,7 +20,7 @@ use Rattle.model.proofs.Simulate.{SystemView, fires, stuck, system-view
 use Rattle.model.proofs.Reach.{cond-none, deterministic, takes}
 use Rattle.model.proofs.Passed.{Sound, sound-of}
 use Rattle.model.proofs.Regions.{uniform-region, regions-iff}
-use Rattle.model.proofs.Arcs.{on-iff, in-place, in-place-number, arc-of, arc-pre, arc-post, arc-iff, no-arc}
+use Rattle.model.proofs.Arcs.{on-iff, in-place, in-place-number, arc-of, arc-pre, arc-post, arc-iff}
 use Rattle.model.proofs.Joint.{AllMoves, then-some, product-iff, walks-iff}
 use Rattle.model.proofs.Standing.{stands-at, stands-only}
 

@@ -7,7 +7,7 @@ use mathlib.Core.List.{List, [], _∷_, List·Memᴰ, List·Memᴰ·head, List·
 use mathlib.Core.Option.{Option, none, some, Option·some-injective, Option·none-ne-some, Option·some-ne-none}
 use lib.Dec.{T}
 use lib.ListN.{length, getD}
-use Rattle.model.specs.Lists.{At, exists, isSome}
+use Rattle.model.specs.Lists.{At, exists, isSome, Pairwise}
 use Rattle.model.specs.Product.{Move, both, Ran, oneMore, inAlphabet, effective, fire, fireAll, productStep, blocker, runFrom}
 use Rattle.model.proofs.Laws.{cond-true}
 
@@ -149,53 +149,63 @@ module _ {M E : Type 0} (moves : M → E → Option Move) where
           one-more (ended x y) = ended x (ap suc y)
           one-more (halted d a x z) = halted d a x z
 
--- ---- machines that are known in two ways: each has the move of its number in the other list
-module _ {M N E : Type 0} (f : M → E → Option Move) (g : N → E → Option Move) where
-  pub record SameMoves (ms : List M) (ns : List N) (e : E) : Type 0 where
+-- ---- machines and events that are known in two ways: each machine has for the event d the move that its number in the other list has for e
+module _ {M N D E : Type 0} (f : M → D → Option Move) (g : N → E → Option Move) where
+  pub record SameMoves (ms : List M) (ns : List N) (d : D) (e : E) : Type 0 where
     pub one-each : length ms ≡ length ns
-    pub each : (k : ℕ) (m : M) (n : N) → At ms k m → At ns k n → f m e ≡ g n e
+    pub each : (k : ℕ) (m : M) (n : N) → At ms k m → At ns k n → f m d ≡ g n e
 
-  others : (m : M) (ms : List M) (n : N) (ns : List N) (e : E) → SameMoves (m ∷ ms) (n ∷ ns) e → SameMoves ms ns e
-  others m ms n ns e s = record { one-each = omega (arith, s .one-each); each = λ k. s .each (suc k) }
+  others : (m : M) (ms : List M) (n : N) (ns : List N) (d : D) (e : E) → SameMoves (m ∷ ms) (n ∷ ns) d e → SameMoves ms ns d e
+  others m ms n ns d e s = record { one-each = omega (arith, s .one-each); each = λ k. s .each (suc k) }
 
-  pub same-effective : (ms : List M) (ns : List N) (e : E) → SameMoves ms ns e → effective f ms e ≡ effective g ns e
+  pub same-effective : (ms : List M) (ns : List N) (d : D) (e : E) → SameMoves ms ns d e → effective f ms d ≡ effective g ns e
   unfolding effective exists inAlphabet
-  same-effective [] [] e s = refl
-  same-effective [] (n ∷ ns) e s = absurd (omega (arith, s .one-each))
-  same-effective (m ∷ ms) [] e s = absurd (omega (arith, s .one-each))
-  same-effective (m ∷ ms) (n ∷ ns) e s = rw (s .each 0 m n refl refl, same-effective ms ns e (others m ms n ns e s))
+  same-effective [] [] d e s = refl
+  same-effective [] (n ∷ ns) d e s = absurd (omega (arith, s .one-each))
+  same-effective (m ∷ ms) [] d e s = absurd (omega (arith, s .one-each))
+  same-effective (m ∷ ms) (n ∷ ns) d e s = rw (s .each 0 m n refl refl, same-effective ms ns d e (others m ms n ns d e s))
 
-  same-fire : (ms : List M) (ns : List N) (e : E) (qs : List ℕ) → SameMoves ms ns e → fireAll f e ms qs ≡ fireAll g e ns qs
+  same-fire : (ms : List M) (ns : List N) (d : D) (e : E) (qs : List ℕ) → SameMoves ms ns d e → fireAll f d ms qs ≡ fireAll g e ns qs
   unfolding fireAll fire
-  same-fire [] [] e [] s = refl
-  same-fire [] [] e (q ∷ qs) s = refl
-  same-fire [] (n ∷ ns) e qs s = absurd (omega (arith, s .one-each))
-  same-fire (m ∷ ms) [] e qs s = absurd (omega (arith, s .one-each))
-  same-fire (m ∷ ms) (n ∷ ns) e [] s = refl
-  same-fire (m ∷ ms) (n ∷ ns) e (q ∷ qs) s = rw (s .each 0 m n refl refl, same-fire ms ns e qs (others m ms n ns e s))
+  same-fire [] [] d e [] s = refl
+  same-fire [] [] d e (q ∷ qs) s = refl
+  same-fire [] (n ∷ ns) d e qs s = absurd (omega (arith, s .one-each))
+  same-fire (m ∷ ms) [] d e qs s = absurd (omega (arith, s .one-each))
+  same-fire (m ∷ ms) (n ∷ ns) d e [] s = refl
+  same-fire (m ∷ ms) (n ∷ ns) d e (q ∷ qs) s = rw (s .each 0 m n refl refl, same-fire ms ns d e qs (others m ms n ns d e s))
 
-  same-blocker : (ms : List M) (ns : List N) (e : E) (qs : List ℕ) → SameMoves ms ns e → blocker f ms qs e ≡ blocker g ns qs e
+  same-blocker : (ms : List M) (ns : List N) (d : D) (e : E) (qs : List ℕ) → SameMoves ms ns d e → blocker f ms qs d ≡ blocker g ns qs e
   unfolding blocker fire
-  same-blocker [] [] e qs s = refl
-  same-blocker [] (n ∷ ns) e qs s = absurd (omega (arith, s .one-each))
-  same-blocker (m ∷ ms) [] e qs s = absurd (omega (arith, s .one-each))
-  same-blocker (m ∷ ms) (n ∷ ns) e [] s = refl
-  same-blocker (m ∷ ms) (n ∷ ns) e (q ∷ qs) s = rw (s .each 0 m n refl refl, same-blocker ms ns e qs (others m ms n ns e s))
+  same-blocker [] [] d e qs s = refl
+  same-blocker [] (n ∷ ns) d e qs s = absurd (omega (arith, s .one-each))
+  same-blocker (m ∷ ms) [] d e qs s = absurd (omega (arith, s .one-each))
+  same-blocker (m ∷ ms) (n ∷ ns) d e [] s = refl
+  same-blocker (m ∷ ms) (n ∷ ns) d e (q ∷ qs) s = rw (s .each 0 m n refl refl, same-blocker ms ns d e qs (others m ms n ns d e s))
 
-  same-step : (ms : List M) (ns : List N) (e : E) (qs : List ℕ) → SameMoves ms ns e → productStep f ms qs e ≡ productStep g ns qs e
+  same-step : (ms : List M) (ns : List N) (d : D) (e : E) (qs : List ℕ) → SameMoves ms ns d e → productStep f ms qs d ≡ productStep g ns qs e
   unfolding productStep
-  same-step ms ns e qs s = rw (same-effective ms ns e s, same-fire ms ns e qs s)
+  same-step ms ns d e qs s = rw (same-effective ms ns d e s, same-fire ms ns d e qs s)
 
-  pub same-run : (ms : List M) (ns : List N) (es : List E) → ((e : E) → List·Memᴰ e es → SameMoves ms ns e) → (qs : List ℕ) → runFrom f ms qs es ≡ runFrom g ns qs es
+  pub same-run : (ms : List M) (ns : List N) (ds : List D) (es : List E) → Pairwise (SameMoves ms ns) ds es → (qs : List ℕ) → runFrom f ms qs ds ≡ runFrom g ns qs es
   unfolding runFrom
-  same-run ms ns [] s qs = refl
-  same-run ms ns (e ∷ es) s qs = go (productStep f ms qs e) refl (same-run ms ns es (λ d i. s d (List·Memᴰ·tail i)))
+  same-run ms ns [] [] s qs = refl
+  same-run ms ns [] (e ∷ es) s qs = absurd s
+  same-run ms ns (d ∷ ds) [] s qs = absurd s
+  same-run ms ns (d ∷ ds) (e ∷ es) (here, s) qs = go (productStep f ms qs d) refl (same-run ms ns ds es s)
     where
-      here : SameMoves ms ns e
-      here = s e (List·Memᴰ·head refl)
-
-      go : (o : Option (List ℕ)) → productStep f ms qs e ≡ o → ((rs : List ℕ) → runFrom f ms rs es ≡ runFrom g ns rs es) → runFrom f ms qs (e ∷ es) ≡ runFrom g ns qs (e ∷ es)
+      go : (o : Option (List ℕ)) → productStep f ms qs d ≡ o → ((rs : List ℕ) → runFrom f ms rs ds ≡ runFrom g ns rs es) → runFrom f ms qs (d ∷ ds) ≡ runFrom g ns qs (e ∷ es)
       go none h ih =
-          run-stops f ms qs e es h ∙ ap (λ (k : ℕ). record { ran = 0; blocked = some k; places = qs }) (same-blocker ms ns e qs here)
-          ∙ sym (run-stops g ns qs e es (sym (same-step ms ns e qs here) ∙ h))
-      go (some rs) h ih = run-goes f ms qs rs e es h ∙ ap oneMore (ih rs) ∙ sym (run-goes g ns qs rs e es (sym (same-step ms ns e qs here) ∙ h))
+          run-stops f ms qs d ds h ∙ ap (λ (k : ℕ). record { ran = 0; blocked = some k; places = qs }) (same-blocker ms ns d e qs here)
+          ∙ sym (run-stops g ns qs e es (sym (same-step ms ns d e qs here) ∙ h))
+      go (some rs) h ih = run-goes f ms qs rs d ds h ∙ ap oneMore (ih rs) ∙ sym (run-goes g ns qs rs e es (sym (same-step ms ns d e qs here) ∙ h))
+
+-- each event by itself
+pub pairwise-same : {E : Type 0} (R : E → E → Type 0) (es : List E) → ((e : E) → List·Memᴰ e es → R e e) → Pairwise R es es
+pairwise-same R [] h = tt
+pairwise-same R (e ∷ es) h = (h e (List·Memᴰ·head refl), pairwise-same R es (λ d i. h d (List·Memᴰ·tail i)))
+
+pub pairwise-map : {A B : Type 0} {R S : A → B → Type 0} (xs : List A) (ys : List B) → ((x : A) (y : B) → R x y → S x y) → Pairwise R xs ys → Pairwise S xs ys
+pairwise-map [] [] f h = tt
+pairwise-map [] (y ∷ ys) f h = absurd h
+pairwise-map (x ∷ xs) [] f h = absurd h
+pairwise-map (x ∷ xs) (y ∷ ys) f (a, h) = (f x y a, pairwise-map xs ys f h)

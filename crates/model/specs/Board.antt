@@ -8,7 +8,7 @@ use mathlib.Core.Option.{Option, Option·map}
 use lib.Dec.{leb, ltb, eqb}
 use lib.ListN.{length}
 use Rattle.model.specs.Lists.{exists, every, first, index, isEmpty}
-use Rattle.model.specs.Refusal.{Refusal, refuse, Checked, refused, passed, need, _>>=_, _>>_}
+use Rattle.model.specs.Refusal.{refuse, Checked, refused, passed, need, _>>=_, _>>_}
 use Rattle.model.specs.Product.{Move, Ran, effective, runFrom}
 use Rattle.model.specs.Bytes.{Name, sameName}
 use Rattle.model.specs.Reading.{Parsed, fail, got}

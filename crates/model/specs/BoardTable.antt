@@ -1,13 +1,18 @@
 -- Row 15, what a good sheet is, row 14 of the board's run and the moves of a sheet's machines, as propositions. Document 02, slip 1.
 -- Believed: all of it.
-use Prim.Native.Nat.{ℕ, _+_, _≤_, _<_}
+use Prim.Native.Nat.{ℕ, suc, _+_, _≤_, _<_}
 use mathlib.Core.Path.{_≡_}
-use mathlib.Core.Logic.{_⊎_}
+use mathlib.Core.Logic.{_⊎_, _↔_}
 use mathlib.Core.List.{List, [], _∷_, _++_, flatMap, List·Memᴰ}
-use lib.ListN.{length, take}
-use Rattle.model.specs.Lists.{At}
+use lib.Dec.{eqb}
+use lib.ListN.{length, take, getD, replicate}
+use Rattle.model.specs.Lists.{At, count}
+use Rattle.model.specs.Refusal.{Refusal, refuse, refused, passed}
+use Rattle.model.specs.Region.{ProductWalk, Blocks}
 use Rattle.model.specs.Bytes.{bytes, Name, IsName, OneEvent}
 use Rattle.model.specs.Sheet.{NamedMove, NamedLine, Board, writtenLine, writtenCount, writtenSheet}
+use Rattle.model.specs.Services.{whole, blocked, refusedBy, RunAnswer}
+use Rattle.model.specs.Board.{readSheet, boardRun}
 
 -- the event is on the line's machine; on some machine of the sheet
 abbrev pub OnLine : NamedLine → Name → Type 0
@@ -74,19 +79,66 @@ ended e = e ++ bytes "\n"
 abbrev pub Unbroken : List ℕ → Type 0
 Unbroken w = ¬ List·Memᴰ 10 w
 
--- row 14: the names before position k are on the sheet; the one there is on no move, or not ended
-pub record OddName (b : Board) (t : List ℕ) (k : ℕ) : Type 0 where
+-- row 14, where these names are known: those before position k are; the one there is not, or is not ended
+pub record OddName (Known : Name → Type 0) (t : List ℕ) (k : ℕ) : Type 0 where
   pub before : List Name
   pub count : length before ≡ k
-  pub known : (e : Name) → List·Memᴰ e before → OnSheet b e
+  pub known : (e : Name) → List·Memᴰ e before → Known e
   pub name : Name
   pub unbroken : Unbroken name
   pub rest : List ℕ
   pub list : t ≡ flatMap ended before ++ (name ++ rest)
-  pub odd : ((rest ≡ []) × (¬ (name ≡ []))) ⊎ (((after : List ℕ) × (rest ≡ 10 ∷ after)) × (¬ OnSheet b name))
+  pub odd : ((rest ≡ []) × (¬ (name ≡ []))) ⊎ (((after : List ℕ) × (rest ≡ 10 ∷ after)) × (¬ Known name))
 
 -- ---- the machines of a sheet by their moves, to run together as Region has it
 
 -- the event moves the machine from place q to place r
 abbrev pub HasMove : NamedLine → ℕ → Name → ℕ → Type 0
 HasMove l q e r = (x : NamedMove) × List·Memᴰ x (l .moves) × OneEvent e (x .event) × (x .pre ≡ q) × (x .post ≡ r)
+
+-- each machine stands in the start place of its line
+pub record AtStart (b : Board) (qs : List ℕ) : Type 0 where
+  pub one-each : length qs ≡ length b
+  pub each : (k : ℕ) (l : NamedLine) → At b k l → getD qs k 0 ≡ l .start
+
+-- the machines run the names together from their start places, to the places qs
+pub record BoardRuns (b : Board) (es : List Name) (qs : List ℕ) : Type 0 where
+  pub start : List ℕ
+  pub stands : AtStart b start
+  pub walk : ProductWalk HasMove b start es qs
+
+-- ---- what the calls promise of any bytes
+
+-- "15 'bad sheet', first faulty line … and 0"
+abbrev pub SheetRefused : List ℕ → Refusal → Type 0
+SheetRefused s r = (l : ℕ) × BadSheet s l × (r ≡ refuse 15 l 0)
+
+pub record Loads (s : List ℕ) : Type 0 where
+  pub refuses : (r : Refusal) → (readSheet s ≡ refused r) ↔ SheetRefused s r
+  -- reading and writing are inverse on good sheets
+  pub accepts : (b : Board) → (readSheet s ≡ passed b) ↔ SaysSheet s b
+  -- "every line ended by byte 10", line 1 and one for each machine
+  pub lines : (n : ℕ) (b : Board) (rest : List ℕ) → Opens s n b rest → count (eqb 10) s ≡ suc (length b) + count (eqb 10) rest
+
+-- 15, then 14, "before any move"
+pub record BoardRefuses (s t : List ℕ) : Type 0 where
+  pub refuses : (r : Refusal) → (boardRun s t .outcome ≡ refusedBy r)
+      ↔ (SheetRefused s r ⊎ ((b : Board) × SaysSheet s b × (k : ℕ) × OddName (OnSheet b) t k × (r ≡ refuse 14 k 0)))
+  pub zeros : (r : Refusal) → boardRun s t .outcome ≡ refusedBy r → boardRun s t .places ≡ replicate 16 0
+
+-- the places of sixteen machine numbers, "with 0 for machine numbers not in use"
+pub record Sixteen (qs ps : List ℕ) : Type 0 where
+  pub sixteen : length ps ≡ 16
+  pub used : take (length qs) ps ≡ qs
+  pub unused : (k : ℕ) → length qs ≤ k → getD ps k 0 ≡ 0
+
+-- what is answered of names that are on a good sheet: "it answers as Run does"
+pub record BoardTells (b : Board) (es : List Name) (a : RunAnswer) : Type 0 where
+  pub not-refused : (r : Refusal) → ¬ (a .outcome ≡ refusedBy r)
+  -- "that the list ran to its end", and "the place of each machine"
+  pub ran-whole : (a .outcome ≡ whole) ↔ ((qs : List ℕ) × BoardRuns b es qs)
+  pub if-whole : (qs : List ℕ) → BoardRuns b es qs → Sixteen qs (a .places)
+  -- "or how many events ran and the lowest machine that blocked the next"
+  pub if-blocked : (n k : ℕ) → a .outcome ≡ blocked n k
+      → (n < length es) × ((qs : List ℕ) × BoardRuns b (take n es) qs × Sixteen qs (a .places) × Blocks HasMove b qs (getD es n []) k
+      × ((j : ℕ) → j < k → ¬ Blocks HasMove b qs (getD es n []) j))
