@@ -13,7 +13,7 @@ use Rattle.model.specs.TransitionSystem.{Transition}
 use Rattle.model.specs.Product.{Ran}
 use Rattle.model.specs.Bytes.{bytes}
 use Rattle.model.specs.Text.{Input}
-use Rattle.model.specs.Sheet.{sheet}
+use Rattle.model.specs.Sheet.{writtenCount, writtenSheet, sheet}
 use Rattle.model.specs.Services.{Part, Kept, asFarAs7, asFarAs12, name, runInput, thin, writtenRefusal}
 use Rattle.model.specs.Printed.{printedBy, fitting, printedCheck, transitionLines, printedSteps, nameLine, printedName, ranWord, placesWord, ranLine, printedRun, keptLine, printedThin}
 use Rattle.command_line.specs.declared.Service.{Service}
@@ -55,7 +55,7 @@ unfolding keptLine
 kept-speaks k = omega arith
 
 sheet-speaks : (v : Input) → 0 < length (sheet v)
-unfolding sheet
+unfolding sheet writtenSheet writtenCount
 sheet-speaks v = omega arith
 
 -- what is lent suffices, or the refusal says how much is needed

@@ -11,7 +11,7 @@ use Rattle.model.specs.Machine.{placeIn, places, crosses, move, duplicateState,
 use Rattle.model.specs.Bytes.{bytes, isDigit, isLetter, isNameByte, isFigure, isName, digits, numeral, numeralUpTo}
 use Rattle.model.specs.Form.{written, isMachineLine, isStepLine, statesLine, spacedName, eventsLine, stepLine, spacedFigure, place, machineLine, lineAfter}
 use Rattle.model.specs.Text.{eventNumber, valueOf, distinct, inLimit, isDeclared, ended, lineThen, linesFrom, read, nameAt}
-use Rattle.model.specs.Sheet.{addMove, movesBelow, sheetLine, sheetLines, moveBytes, writtenMove, writtenLine, sheet}
+use Rattle.model.specs.Sheet.{addMove, movesBelow, sheetLine, sheetLines, moveBytes, writtenMove, writtenLine, writtenCount, writtenSheet, boardOf, sheet}
 use Rattle.model.specs.Printed.{printedBy, fitting, spaced, printedCheck, nameLine, printedName, ranWord, placesWord, ranLine, printedRun}
 use Rattle.model.specs.Services.{asFarAs7, asFarAs10, asFarAs12, name, runEvents, printed, writtenAnswer, writtenRefusal}
 use Rattle.model.specs.Examples.{Y, Y0, Y1}
@@ -34,7 +34,7 @@ unfolding exists every first index count satisfying isSome isEmpty numbers elem 
     places crosses move duplicateState unplacedState transitionsOf enters allOrNone uniform nonuniformEvent ineffectiveEvent inPre ready common excited openState
     openEvent closureRefusal machineRefusal machinesRefusal coverRefusal isDigit isLetter isNameByte isFigure isName digits numeral numeralUpTo written isMachineLine
     isStepLine statesLine spacedName eventsLine stepLine spacedFigure place machineLine lineAfter eventNumber valueOf distinct inLimit isDeclared ended lineThen
-    linesFrom read nameAt addMove movesBelow sheetLine sheetLines moveBytes writtenMove writtenLine sheet printedBy fitting spaced printedCheck nameLine
+    linesFrom read nameAt addMove movesBelow sheetLine sheetLines moveBytes writtenMove writtenLine writtenCount writtenSheet boardOf sheet printedBy fitting spaced printedCheck nameLine
     printedName ranWord placesWord ranLine printedRun asFarAs7 asFarAs10 asFarAs12 name runEvents printed writtenAnswer writtenRefusal serviceSaid isNumeral
     isNameWord numberSaid eventSaid sizeSaid oneEventSaid before eventsSaid namesOf answerBy answerTo
 answers-on-y = record { no-word = refl; short = refl; named = refl; ran = refl; two-names = refl; capitals = refl }

@@ -11,7 +11,7 @@ use Rattle.model.proofs.Together.{SameMoves}
 use Rattle.regions.specs.Moves.{moveAt, MovesTold}
 
 pub told-moves : {ts : TransitionSystem} {ms : Decomposition} {pre post : List ℕ} {machines : ℕ} → MovesTold ts ms pre post → machines ≡ length ms
-    → (e : ℕ) → e < ts .events → SameMoves (moveAt pre post) (move ts) (numbers machines) ms e
+    → (e : ℕ) → e < ts .events → SameMoves (moveAt pre post) (move ts) (numbers machines) ms e e
 told-moves {machines = machines} told counted e l =
     record {
       one-each = length-numbers machines ∙ counted;

@@ -46,13 +46,13 @@ module _ {s : List ℕ} {p : Tables} {pre post excited : List ℕ} (j : Judged s
   counted = j .past .held .told .tells-machines .counted
 
   -- the rows tell the machines' moves
-  same : (e : ℕ) → e < system value .events → SameMoves (moveAt pre post) (move (system value)) (numbers (p .counts .machines)) machines e
+  same : (e : ℕ) → e < system value .events → SameMoves (moveAt pre post) (move (system value)) (numbers (p .counts .machines)) machines e e
   same = told-moves (j .past .cover .moves) counted
 
   -- past 11 each event is on a machine
   on-a-machine : (e : ℕ) → e < system value .events → IsOn pre post (p .counts .machines) e
   on-a-machine e l =
-      subst T (sym (same-effective (moveAt pre post) (move (system value)) (numbers (p .counts .machines)) machines e (same e l)))
+      subst T (sym (same-effective (moveAt pre post) (move (system value)) (numbers (p .counts .machines)) machines e e (same e l)))
       (covers-of (system value) machines (j .covered) .effective e l)
 
   abbrev start : List ℕ

@@ -1,14 +1,14 @@
 -- The sheet: line by line, how long it is and how it is written.
-use Prim.Native.Nat.{ℕ, _+_, _*_, _≤_, _<_}
+use Prim.Native.Nat.{ℕ, zero, suc, _+_, _*_, _≤_, _<_}
 use native.Mathlib.Numerals.{add-one}
 use native.Mathlib.Omega.{arith}
-use mathlib.Core.Path.{_≡_, ap, _∙_}
-use mathlib.Core.List.{List, [], _∷_, _++_, flatMap, append-nil, append-assoc}
-use lib.ListN.{length, length-append}
+use mathlib.Core.Path.{_≡_, refl, ap, _∙_}
+use mathlib.Core.List.{List, [], _∷_, _++_, map, flatMap, append-nil, append-assoc}
+use lib.ListN.{length, length-append, length-map}
 use lib.Seq.{sets}
 use Rattle.model.specs.Bytes.{bytes, digits}
-use Rattle.model.specs.Sheet.{writtenLine}
-use Rattle.model.proofs.ListLaws.{flatMap-append}
+use Rattle.model.specs.Sheet.{writtenLine, writtenCount, writtenSheet, namedLine}
+use Rattle.model.proofs.ListLaws.{map-append, flatMap-append}
 use Rattle.rows.specs.declared.Tables.{Tables}
 use Rattle.rows.specs.Told.{entry}
 use Rattle.writers.specs.Written.{Writes}
@@ -18,12 +18,8 @@ use Rattle.rows.specs.Names.{rowNames}
 use Rattle.sheet.specs.Within.{WritesWithin}
 use Rattle.sheet.proofs.Within.{within-none, within-exact, within-append, within-end, Room}
 
--- the first line
-unfoldable pub title : ℕ → List ℕ
-title n = bytes "(accepted " ++ (digits n ++ bytes ")\n")
-
-length-title : (n : ℕ) → length (title n) ≡ 12 + length (digits n)
-unfolding title
+length-title : (n : ℕ) → length (writtenCount n) ≡ 12 + length (digits n)
+unfolding writtenCount
 length-title n = omega (arith, length-append (bytes "(accepted ") (digits n ++ bytes ")\n"), length-append (digits n) (bytes ")\n"))
 
 -- what stands before the moves of machine k
@@ -39,9 +35,9 @@ module _ (s : List ℕ) (p : Tables) (pre post : List ℕ) where
 
   -- the lines of the first n machines
   unfoldable pub linesTo : ℕ → List ℕ
-  linesTo n = flatMap (writtenLine (rowNames s p)) (rowLines p pre post n)
+  linesTo n = flatMap writtenLine (map (namedLine (rowNames s p)) (rowLines p pre post n))
 
-  line-is : (k : ℕ) → writtenLine (rowNames s p) (rowLine p pre post k) ≡ lineOf k
+  line-is : (k : ℕ) → writtenLine (namedLine (rowNames s p) (rowLine p pre post k)) ≡ lineOf k
   unfolding writtenLine rowLine headBytes movesBytes
   line-is k = simp append-assoc
 
@@ -49,21 +45,29 @@ module _ (s : List ℕ) (p : Tables) (pre post : List ℕ) where
   unfolding linesTo rowLines flatMap
   lines-more n =
       rw (add-one n)
-      (flatMap-append (writtenLine (rowNames s p)) (rowLines p pre post n) (rowLine p pre post n ∷ [])
-      ∙ ap (λ (w : List ℕ). linesTo n ++ w) (append-nil (writtenLine (rowNames s p) (rowLine p pre post n)) ∙ line-is n))
+      (ap (flatMap writtenLine) (map-append (namedLine (rowNames s p)) (rowLines p pre post n) (rowLine p pre post n ∷ []))
+      ∙ flatMap-append writtenLine (map (namedLine (rowNames s p)) (rowLines p pre post n)) (namedLine (rowNames s p) (rowLine p pre post n) ∷ [])
+      ∙ ap (λ (w : List ℕ). linesTo n ++ w) (append-nil (writtenLine (namedLine (rowNames s p) (rowLine p pre post n))) ∙ line-is n))
 
   pub length-line : (k : ℕ) → length (lineOf k) ≡ length (headOf p k) + length (movesOf k) + 2
   length-line k = omega (arith, length-append (headOf p k) (movesOf k ++ bytes ")\n"), length-append (movesOf k) (bytes ")\n"))
 
-  sheet-is : rowSheet s p pre post ≡ title (p .counts .machines) ++ linesTo (p .counts .machines)
-  unfolding rowSheet title linesTo
-  sheet-is = simp append-assoc
+  lines-counted : (n : ℕ) → length (rowLines p pre post n) ≡ n
+  unfolding rowLines
+  lines-counted zero = refl
+  lines-counted (suc n) = omega (arith, length-append (rowLines p pre post n) (rowLine p pre post n ∷ []), lines-counted n)
+
+  sheet-is : rowSheet s p pre post ≡ writtenCount (p .counts .machines) ++ linesTo (p .counts .machines)
+  unfolding rowSheet writtenSheet linesTo
+  sheet-is =
+      let n = p .counts .machines in
+      ap (λ (k : ℕ). writtenCount k ++ linesTo n) (length-map (rowLines p pre post n) (namedLine (rowNames s p)) ∙ lines-counted n)
 
   lines-within : (n m : ℕ) → n ≤ m → length (linesTo n) ≤ length (linesTo m)
   lines-within = within linesTo (λ n. rw (lines-more n) (simp length-append (omega arith)))
 
   pub length-sheet : length (rowSheet s p pre post) ≡ 12 + length (digits (p .counts .machines)) + length (linesTo (p .counts .machines))
-  length-sheet = rw (sheet-is) (omega (arith, length-append (title (p .counts .machines)) (linesTo (p .counts .machines)), length-title (p .counts .machines)))
+  length-sheet = rw (sheet-is) (omega (arith, length-append (writtenCount (p .counts .machines)) (linesTo (p .counts .machines)), length-title (p .counts .machines)))
 
   pub title-within : 12 + length (digits (p .counts .machines)) ≤ length (rowSheet s p pre post)
   title-within = omega (arith, length-sheet)
@@ -82,7 +86,7 @@ pub lined-add : {s : List ℕ} {p : Tables} {pre post out left after : List ℕ}
 lined-add {s} {p} {pre} {post} {n = n} t l w = record { most = omega arith; written = rw (lines-more s p pre post n) (within-append (t .written) w) }
 
 module _ (s : List ℕ) (p : Tables) (pre post : List ℕ) {at size : ℕ} {all out : List ℕ} (q : size ≡ length (rowSheet s p pre post)) (fits : size ≤ length all)
-    (first : Writes (title (p .counts .machines)) 0 all at out) where
+    (first : Writes (writtenCount (p .counts .machines)) 0 all at out) where
   -- one line more: where the sheet has room, so has the line
   module _ {left : List ℕ} {i n : ℕ} (t : Lined s p pre post at size out left i n) (l : n < p .counts .machines) where
     pub line-room : Room i size left (headOf p n) (movesOf s p pre post n) (bytes ")\n")
@@ -105,7 +109,7 @@ module _ (s : List ℕ) (p : Tables) (pre post : List ℕ) {at size : ℕ} {all 
   pub lined-end : {left : List ℕ} {i n : ℕ} → Lined s p pre post at size out left i n → p .counts .machines ≤ n → left ≡ sets all 0 (rowSheet s p pre post)
   lined-end {left} {i} {n} t h =
       let z : n ≡ p .counts .machines = omega (arith, t .most) in
-      let k : 0 + length (title (p .counts .machines)) ≤ size = omega (arith, length-sheet s p pre post, length-title (p .counts .machines)) in
+      let k : 0 + length (writtenCount (p .counts .machines)) ≤ size = omega (arith, length-sheet s p pre post, length-title (p .counts .machines)) in
       let w = within-append (within-exact first (omega arith) k) (rw z at (t .written)) in
       let v = rw (← sheet-is s p pre post) at w in
       let e : i ≡ size = omega (arith, v .after) in

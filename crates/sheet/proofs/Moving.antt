@@ -4,15 +4,15 @@ use native.Mathlib.Numerals.{add-one}
 use native.Mathlib.Omega.{arith}
 use mathlib.Core.Path.{_≡_, ap, _∙_}
 use mathlib.Core.Logic.{_⊎_, inl, inr}
-use mathlib.Core.List.{List, [], _++_, flatMap, append-nil}
+use mathlib.Core.List.{List, [], _++_, map, flatMap, append-nil}
 use mathlib.Core.Option.{Option, none, some}
 use lib.Dec.{ltb, lt→ltb}
 use lib.ListN.{length, getD, length-append}
 use Rattle.model.specs.Bytes.{Name}
 use Rattle.model.specs.Product.{Move}
-use Rattle.model.specs.Sheet.{addMove, moveBytes, writtenMove}
+use Rattle.model.specs.Sheet.{addMove, moveBytes, writtenMove, named}
 use Rattle.model.proofs.Laws.{cond-true, cond-false, not-below, order}
-use Rattle.model.proofs.ListLaws.{flatMap-append}
+use Rattle.model.proofs.ListLaws.{map-append, flatMap-append}
 use Rattle.rows.specs.Told.{entry}
 use Rattle.rows.proofs.Names.{nameIn, name-at}
 use Rattle.regions.specs.Moves.{moveAt}
@@ -35,16 +35,17 @@ module _ (pre post : List ℕ) (k n : ℕ) where
   module _ (names : List Name) where
     pub moves-skip : 64 ≤ entry pre (n * 16 + k) → movesBytes names pre post k (n + 1) ≡ movesBytes names pre post k n
     unfolding movesBytes rowMoves addMove
-    moves-skip h = rw (add-one n) (ap (λ (o : Option Move). flatMap (writtenMove names) (addMove n o (rowMoves pre post k n))) (move-none h))
+    moves-skip h = rw (add-one n) (ap (λ (o : Option Move). flatMap writtenMove (map (named names) (addMove n o (rowMoves pre post k n)))) (move-none h))
 
     pub moves-add : entry pre (n * 16 + k) < 64
         → movesBytes names pre post k (n + 1) ≡ movesBytes names pre post k n ++ moveBytes (getD names n []) (entry pre (n * 16 + k)) (entry post (n * 16 + k))
     unfolding movesBytes rowMoves addMove writtenMove moveBytes flatMap
     moves-add h =
         rw (add-one n)
-        (ap (λ (o : Option Move). flatMap (writtenMove names) (addMove n o (rowMoves pre post k n))) (move-some h)
-        ∙ flatMap-append (writtenMove names) (rowMoves pre post k n) _
-        ∙ ap (λ (w : List ℕ). flatMap (writtenMove names) (rowMoves pre post k n) ++ w)
+        (ap (λ (o : Option Move). flatMap writtenMove (map (named names) (addMove n o (rowMoves pre post k n)))) (move-some h)
+        ∙ ap (flatMap writtenMove) (map-append (named names) (rowMoves pre post k n) _)
+        ∙ flatMap-append writtenMove (map (named names) (rowMoves pre post k n)) _
+        ∙ ap (λ (w : List ℕ). flatMap writtenMove (map (named names) (rowMoves pre post k n)) ++ w)
         (append-nil (moveBytes (getD names n []) (entry pre (n * 16 + k)) (entry post (n * 16 + k)))))
 
 -- the moves of fewer events are no longer

@@ -10,7 +10,7 @@ use Rattle.model.specs.Lists.{At}
 use Rattle.model.specs.TransitionSystem.{TransitionSystem}
 use Rattle.model.specs.Machine.{Machine, placeOf, move, machinesRefusal}
 use Rattle.model.specs.Text.{Input, system, Limits}
-use Rattle.model.specs.Sheet.{movesBelow, sheetLine, sheetLines, sheet}
+use Rattle.model.specs.Sheet.{movesBelow, sheetLine, sheetLines, boardOf, sheet}
 use Rattle.model.proofs.Positions.{below-at, at-value}
 use Rattle.model.proofs.Sheets.{at-lines, lines-length}
 use Rattle.rows.specs.declared.Counts.{Counts}
@@ -69,8 +69,8 @@ module _ (s : List ℕ) (v : Input) (p : Tables) (pre post : List ℕ) (told : T
       ∙ rw (← lines-length (system v) (v .machines) 0) (take-length ls)
 
   pub told-sheet : rowSheet s p pre post ≡ sheet v
-  unfolding rowSheet sheet
-  told-sheet = rw (all-lines, told-names s v p told, told .tells-machines .counted)
+  unfolding rowSheet sheet boardOf
+  told-sheet = rw (all-lines, told-names s v p told)
 
 -- of bounds on all rows those that a sheet needs
 pub sheet-bounds : (c : Counts) (ats lens sources events targets sizes duplicates places : List ℕ)

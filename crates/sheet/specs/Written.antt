@@ -1,8 +1,8 @@
 -- The sheet that the rows give: the model's bytes of the model's lines, with each number and name taken from the rows.
 use Prim.Native.Nat.{ℕ, zero, suc, _+_, _*_}
-use mathlib.Core.List.{List, [], _∷_, _++_, flatMap}
+use mathlib.Core.List.{List, [], _∷_, _++_, map, flatMap}
 use Rattle.model.specs.Bytes.{bytes, digits, Name}
-use Rattle.model.specs.Sheet.{EventMove, SheetLine, addMove, writtenMove, writtenLine}
+use Rattle.model.specs.Sheet.{EventMove, SheetLine, addMove, writtenMove, writtenSheet, named, namedLine}
 use Rattle.rows.specs.declared.Tables.{Tables}
 use Rattle.rows.specs.Told.{entry}
 use Rattle.rows.specs.Names.{namesIn, rowNames}
@@ -38,13 +38,11 @@ rowLines p pre post (suc n) = rowLines p pre post n ++ (rowLine p pre post n ∷
 
 -- the moves of the events on machine k, as bytes
 unfoldable pub movesBytes : List Name → List ℕ → List ℕ → ℕ → ℕ → List ℕ
-movesBytes names pre post k n = flatMap (writtenMove names) (rowMoves pre post k n)
+movesBytes names pre post k n = flatMap writtenMove (map (named names) (rowMoves pre post k n))
 
 -- the same with the names that the text has
 abbrev pub namedMoves : List ℕ → List ℕ → List ℕ → List ℕ → List ℕ → ℕ → ℕ → List ℕ
 namedMoves s ats lens pre post k events = movesBytes (namesIn s ats lens events) pre post k events
 
 unfoldable pub rowSheet : List ℕ → Tables → List ℕ → List ℕ → List ℕ
-rowSheet s p pre post =
-    bytes "(accepted "
-    ++ (digits (p .counts .machines) ++ (bytes ")\n" ++ flatMap (writtenLine (rowNames s p)) (rowLines p pre post (p .counts .machines))))
+rowSheet s p pre post = writtenSheet (map (namedLine (rowNames s p)) (rowLines p pre post (p .counts .machines)))

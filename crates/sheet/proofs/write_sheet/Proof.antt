@@ -5,13 +5,14 @@ use mathlib.Core.Path.{ap, _∙_}
 use borrow.Author.Needs.{needs}
 use denote.Ref.{now}
 use lib.Seq.{sets}
+use Rattle.model.specs.Sheet.{writtenCount}
 use Rattle.model.specs.Bytes.{bytes}
 use Rattle.rows.specs.declared.Tables.{Tables}
 use Rattle.writers.specs.Written.{Writes}
 use Rattle.writers.proofs.Writing.{writes-append, writes-length}
 use Rattle.sheet.specs.Rows.{sheetRows}
 use Rattle.sheet.proofs.Within.{Room, room-first, room-second, room-third, all-three}
-use Rattle.sheet.proofs.Lining.{title, title-within, headOf, movesOf, Lined, lined-none, lined-add, lined-end, line-room}
+use Rattle.sheet.proofs.Lining.{title-within, headOf, movesOf, Lined, lined-none, lined-add, lined-end, line-room}
 use Rattle.sheet.proofs.Lengths.{sheet-same}
 use Rattle.sheet.proofs.write_sheet.Statement.{statement}
 use Rattle.sheet.proofs.write_sheet.Tie as tie
@@ -34,9 +35,9 @@ given c = c .before .before .before .before .before .before .before .before .bef
 
 -- the first line
 titled : (c : tie.After-slice-known4 Inv-loop μ-loop)
-    → Writes (title (given c .args .c .machines)) 0 (now (given c .args .out)) (c .before .before .write-bytes2 .result) (c .before .before .write-bytes2
+    → Writes (writtenCount (given c .args .c .machines)) 0 (now (given c .args .out)) (c .before .before .write-bytes2 .result) (c .before .before .write-bytes2
     .last .1 .0)
-unfolding title
+unfolding writtenCount
 titled c = writes-append (c .before .before .before .before .before .before .before .before .before .before .before .write-bytes .ensures) (writes-append (c
     .before .before .before .before .before .before .before .write-figure .ensures) (c .before .before .write-bytes2 .ensures))
 
