@@ -10,13 +10,10 @@ use lib.ListN.{length, getD}
 use lib.Seq.{drop-cons}
 use borrow.Author.Tests.{leb-true, eqb-true}
 use Rattle.model.specs.Bytes.{bytes, isDigit}
+use Rattle.model.proofs.Laws.{both}
 use Rattle.model.proofs.Words.{Spans, then, digits-one, digits-two, digits-three}
 use Rattle.quick_step_line.specs.declared.figures.Figure.{Figure}
 use Rattle.quick_step_line.specs.Quick.{FigureStands, GuessedFigure, SizedFigure, one, two, three}
-
-pub both : (a b : Bool) → (a && b) ≡ true → (a ≡ true) × (b ≡ true)
-both true b e = (refl, e)
-both false b e = let z : _≡_ {A = ℕ} 0 1 = cc in absurd (omega arith)
 
 -- the byte at i
 pub byte : (s : List ℕ) (at next i : ℕ) {a : ℕ} → at ≡ i → i + 1 ≡ next → i < length s → a ≡ getD s i 0 → Spans s at (a ∷ []) next

@@ -11,12 +11,13 @@ use borrow.Author.Tests.{ltb-true}
 use Rattle.model.specs.Bytes.{bytes, Name, IsName}
 use Rattle.model.specs.Reading.{got, part}
 use Rattle.model.specs.Form.{step, written, stepLine}
+use Rattle.model.proofs.Laws.{both}
 use Rattle.model.proofs.Lines.{step-complete}
 use Rattle.model.proofs.Words.{Spans, then, spans-part}
+use Rattle.names.specs.Held.{PackedNames, Same}
+use Rattle.names.proofs.HeldNames.{entry, entry-name, entry-told}
 use Rattle.quick_step_line.specs.declared.figures.Figure.{Figure}
-use Rattle.quick_step_line.specs.Quick.{PackedNames, ReadsStep, FigureStands, GuessedFigure, Packs, NameSize, Same, Framed}
-use Rattle.quick_step_line.proofs.Standing.{both}
-use Rattle.quick_step_line.proofs.HeldNames.{entry, entry-name, entry-told}
+use Rattle.quick_step_line.specs.Quick.{ReadsStep, FigureStands, GuessedFigure, Packs, NameSize, Framed}
 
 -- the same bytes, where the positions are written another way
 moved : {s w : List ℕ} {i j p q : ℕ} → i ≡ p → j ≡ q → Spans s i w j → Spans s p w q

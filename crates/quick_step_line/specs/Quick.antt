@@ -2,26 +2,17 @@
 use Prim.Native.Nat.{ℕ, _+_, _-_, _<_, _≤_}
 use mathlib.Core.Path.{_≡_}
 use mathlib.Core.Bool.{true}
-use mathlib.Core.List.{List, [], map, List·Memᴰ}
-use lib.ListN.{length, getD}
-use Rattle.model.specs.Bytes.{bytes, isDigit, digits, Name, IsName}
+use mathlib.Core.List.{List, [], List·Memᴰ}
+use lib.ListN.{getD}
+use Rattle.model.specs.Bytes.{bytes, isDigit, digits, Name}
 use Rattle.model.specs.Reading.{got, part}
 use Rattle.model.specs.Form.{step, stepLine}
 use Rattle.model.proofs.Words.{Spans}
 use Rattle.lexer.specs.Words as Words
-use Rattle.rows.specs.Rows.{row}
+use Rattle.names.specs.Held.{PackedNames}
 use Rattle.quick_step_line.specs.declared.figures.Figure.{Figure}
 use Rattle.quick_step_line.specs.declared.QuickStep.{QuickStep}
 use Rattle.quick_step_line.specs.declared.QuickStep.the-variants.{Unknown, Found}
-
--- the rows of an events line hold these names
-pub record PackedNames (es : List Name) (count : ℕ) (lens highs lows : List ℕ) : Type 0 where
-  pub counted : count ≡ length es
-  pub most : length es ≤ 64
-  pub names : (e : Name) → List·Memᴰ e es → IsName e
-  pub lengths : lens ≡ row 64 0 (map length es)
-  pub high : highs ≡ row 64 0 (map Words.high es)
-  pub low : lows ≡ row 64 0 (map Words.low es)
 
 -- a step line stands at a position: from state a by event k to state b
 pub record ReadsStep (s : List ℕ) (at n count : ℕ) (lens highs lows : List ℕ) (a k b next : ℕ) : Type 0 where
@@ -70,9 +61,3 @@ pub record Framed (s : List ℕ) (at from to end : ℕ) : Type 0 where
   pub before : Spans s (from - 1) (bytes " ") from
   pub behind : Spans s to (bytes " ") (to + 1)
   pub closing : Spans s (end - 1) (bytes ")\n") (end + 1)
-
--- the entry k of the rows has the length n and the numbers h and l
-pub record Same (lens highs lows : List ℕ) (n h l k : ℕ) : Type 0 where
-  pub high : getD highs k 0 ≡ h
-  pub low : getD lows k 0 ≡ l
-  pub long : getD lens k 0 ≡ n

@@ -10,22 +10,19 @@ use figures::figure_at;
 use figures::figure_before;
 use guess::guess_end;
 use model::MAX_EVENTS;
+use name_bytes::name_size;
+use name_bytes::pack_name;
+use names::HINTS;
 use names::hint;
-use names::hint_slot;
-use names::is_event;
-use names::name_size;
-use names::pack_name;
+use names::is_name_at;
 use words::big_endian;
 use words::first_bytes;
 use words::pack_two;
 
 mod figures; // a figure from its first or its last byte
 mod guess; // where the line ends, by bit tricks
-mod names; // the name's event, by a table of hints
+mod name_bytes; // the bytes of a name as its numbers
 mod words; // eight bytes of the text as one number
-
-// How many entries a table of hints has: for a name's numbers an event to try.
-pub const HINTS: usize = 1024;
 
 // A step line, verified; or nothing is known of it.
 pub enum QuickStep {
@@ -96,7 +93,7 @@ fn verified_step<'a>(
     let name = pack_name(s, from, size);
     let k = hint(hints, name.high, name.low);
     let formed = is_framed(s, at, from, to, end) & a.found & b.found;
-    let named = is_event(len, high, low, k, size, name.high, name.low);
+    let named = is_name_at(len, high, low, k, size, name.high, name.low);
     let declared = (a.value < n) & (b.value < n) & (k < count);
     if formed & named & declared {
         return QuickStep::Found {
@@ -129,22 +126,4 @@ pub fn read_step_quickly<'a>(
         return QuickStep::Unknown;
     }
     verified_step(s, at, n, len, high, low, count, hints)
-}
-
-// Hints that lead from each name's numbers to its event, or to another whose numbers have the same entry.
-pub fn fill_hints<'a>(
-    high: &'a [u64; MAX_EVENTS],
-    low: &'a [u64; MAX_EVENTS],
-    count: usize,
-    hints: &mut [u8; HINTS],
-)
-    requires { ⌜ count ≤ 64 ⌝ }
-    ensures { λ _. ⌜ length (now (hints .exit)) ≡ length (now (hints .entry)) ⌝ }
-{
-    let mut k = 0;
-    while k < count {
-        let slot = hint_slot(high[k], low[k]);
-        hints[slot] = k as u8;
-        k += 1;
-    }
 }

@@ -15,7 +15,7 @@ use Rattle.model.proofs.ListLaws.{map-map}
 use Rattle.model.proofs.Values.{Named, lines, numbered, input, value-of-lines}
 use Rattle.rows.specs.Rows.{row, tabulate, placeRow, orNoState}
 use Rattle.lines.specs.Lines.{spots, namesFrom, duplicateMark}
-use Rattle.quick_step_line.specs.Quick.{PackedNames}
+use Rattle.names.specs.Held.{PackedNames}
 use Rattle.rows.specs.declared.Verdict.{Verdict}
 use Rattle.rows.specs.declared.Verdict.the-variants.{Passed}
 use Rattle.rows.specs.declared.Counts.{Counts}

@@ -1,4 +1,4 @@
--- What the inner functions promise: the names found, and the lines read so far.
+-- What the inner functions promise of the lines read so far.
 use Prim.Native.Nat.{ℕ, _+_, _<_, _≤_}
 use mathlib.Core.Path.{_≡_}
 use mathlib.Core.Bool.{true}
@@ -9,15 +9,14 @@ use Rattle.model.specs.Refusal.{Checked, refused, passed}
 use Rattle.model.specs.declared.Refusal as D
 use Rattle.model.specs.Cases.{tabled}
 use Rattle.model.specs.Machine.{Machine}
-use Rattle.model.specs.Bytes.{Name, IsName}
+use Rattle.model.specs.Bytes.{Name}
 use Rattle.model.specs.Reading.{fail, got}
 use Rattle.model.specs.Form.{Line, states, step, written, statesLine, stepLine}
 use Rattle.model.specs.Text.{Input, linesFrom, eventNumber, valueOf, distinct, read}
 use Rattle.model.proofs.Values.{Named, lines}
-use Rattle.lexer.specs.Words as Words
 use Rattle.rows.specs.Rows.{row, placeRow}
 use Rattle.lines.specs.Lines.{spots, duplicateMark, EventRows, eventRows, namesFrom}
-use Rattle.quick_step_line.specs.Quick.{PackedNames}
+use Rattle.names.specs.Held.{PackedNames}
 use Rattle.rows.specs.declared.Counts.{Counts}
 use Rattle.rows.specs.declared.Tables.{Tables}
 use Rattle.rows.specs.declared.Counted.{Counted}
@@ -30,12 +29,6 @@ use Rattle.reader.specs.declared.Section.{Section}
 use Rattle.reader.specs.declared.Section.the-variants.{Refused, Read}
 use Rattle.rows.specs.Tables.{tablesIn}
 use Rattle.reader.specs.Lent.{AnswersRows}
-
--- what looking a name up answers
-pub record Finds (count : ℕ) (lens highs lows : List ℕ) (n h l r : ℕ) : Type 0 where
-  pub most : r ≤ count
-  pub number : (es : List Name) → PackedNames es count lens highs lows → (e : Name) → IsName e → n ≡ length e → h ≡ Words.high e → l ≡ Words.low e
-      → r ≡ eventNumber es e
 
 -- the rows hold these names, and none stands twice
 pub record DistinctRows (es : List Name) (count : ℕ) (lens highs lows : List ℕ) : Type 0 where

@@ -3,7 +3,6 @@ ghost use mathlib.Core.Path.{_≡_};
 ghost use Prim.Native.Nat.{_<_};
 ghost use Rattle.lines.specs.Lines.{eventRows};
 ghost use Rattle.reader.specs.Sections.{StatesRead, noNames, ReadsEvents, FirstRead};
-use super::names::distinct_names;
 use crate::Section;
 use lexer::Word;
 use lines::read_events;
@@ -12,6 +11,7 @@ use model::MAX_EVENTS;
 use model::MAX_STATES;
 use model::MAX_TEXT;
 use model::Refusal;
+use names::distinct_names;
 
 // How many states a text has, if it and they are within the limits, and the position after their line.
 fn declared_states(s: &[u8]) -> Section

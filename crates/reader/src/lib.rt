@@ -24,7 +24,6 @@ use step_lines::read_transitions;
 
 mod first_lines; // the states line and the events line
 mod machine_lines; // the machine lines
-mod names; // the names of the events in rows: looking one up, and that none is there twice
 mod step_lines; // the step lines
 
 // Lines of one kind: how many were read and the position after them, or the refusal of the next.

@@ -4,16 +4,16 @@ ghost use mathlib.Core.Bool.{_&&_};
 ghost use Prim.Native.Nat.{_<_, _≤_};
 ghost use lib.Dec.{ltb};
 ghost use Rattle.reader.specs.Sections.{Declares, StepRead, countOf, ReadsSteps, transitionRows};
-use super::names::find_event;
 use crate::Section;
 use lines::StepLine;
 use lines::read_step;
 use model::MAX_EVENTS;
 use model::MAX_TRANSITIONS;
 use model::Refusal;
-use quick_step_line::HINTS;
+use names::HINTS;
+use names::fill_hints;
+use names::find_name;
 use quick_step_line::QuickStep;
-use quick_step_line::fill_hints;
 use quick_step_line::read_step_quickly;
 use rows::narrow;
 
@@ -64,7 +64,7 @@ fn read_words<'a>(
     }
     let source = step.source;
     let target = step.target;
-    let event = find_event(len, high, low, count, step.len, step.high, step.low);
+    let event = find_name(len, high, low, count, step.len, step.high, step.low);
     if !all_declared(source, target, n, event, count) {
         return StepAt::Refused(Refusal::Undeclared { line }); // 3 stranger
     }

@@ -58,8 +58,8 @@ hint-requires c κs = search needs
 is-framed-requires : tie.Need-is-framed-requires
 is-framed-requires c κs = search needs
 
-is-event-requires : tie.Need-is-event-requires
-is-event-requires c κs = search needs
+is-name-at-requires : tie.Need-is-name-at-requires
+is-name-at-requires c κs = search needs
 
 returns : tie.Need-returns
 unfolding ReadsQuickly
@@ -69,7 +69,7 @@ returns c =
     let f = c .before .before .before .before .before .before .before .before .before .before .before .before in
     verified (now (d .args .s)) (now (d .args .len)) (now (d .args .high)) (now (d .args .low)) (d .args .at) (d .args .n) (d .args .count) _ _ _ _ _ _ _
     (d .pre) (omega arith) (omega arith) (f .before .figure-at .ensures) (f .figure-before .ensures) (g .before .name-size .ensures) (g .pack-name .ensures)
-    _ _ (c .before .before .before .before .before .before .is-framed .ensures) (c .before .before .before .is-event .ensures) (c .if1 .taken)
+    _ _ (c .before .before .before .before .before .before .is-framed .ensures) (c .before .before .before .is-name-at .ensures) (c .if1 .taken)
 
 returns-2 : tie.Need-returns-2
 unfolding ReadsQuickly
@@ -96,6 +96,6 @@ verified-step-spec =
     pack-name-requires
     hint-requires
     is-framed-requires
-    is-event-requires
+    is-name-at-requires
     returns
     returns-2)

@@ -19,14 +19,15 @@ use Rattle.model.specs.Text.{Input, eventNumber, distinct}
 use Rattle.model.proofs.Values.{Named}
 use Rattle.lines.specs.declared.StepWords.{StepWords}
 use Rattle.lines.proofs.Found.{GotStep}
+use Rattle.names.specs.Held.{Finds}
+use Rattle.names.proofs.Lookup.{own-number}
 use Rattle.quick_step_line.specs.Quick.{ReadsStep}
 use Rattle.reader.specs.declared.step_lines.StepAt.{StepAt}
 use Rattle.reader.specs.declared.step_lines.StepAt.the-variants as A
 use Rattle.reader.specs.declared.Section.{Section}
 use Rattle.reader.specs.declared.Section.the-variants.{Refused, Read}
-use Rattle.reader.specs.Sections.{Finds, DistinctRows, Declares, Rest, begun, TransitionRows, transitionRows, withSteps, StepFound, StepRefused, StepRead, countOf, StepsFound, StepsRead, ReadsSteps}
+use Rattle.reader.specs.Sections.{DistinctRows, Declares, Rest, begun, TransitionRows, transitionRows, withSteps, StepFound, StepRefused, StepRead, countOf, StepsFound, StepsRead, ReadsSteps}
 use Rattle.reader.proofs.Rest.{and-not}
-use Rattle.reader.proofs.names.PackedNames.{own-number}
 use Rattle.reader.proofs.Stores.{store}
 use Rattle.reader.proofs.Phases.{step-many, step-source, step-target, step-event, step-more}
 

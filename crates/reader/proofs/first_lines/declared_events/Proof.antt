@@ -9,9 +9,9 @@ use Rattle.model.specs.Form.{eventsLine}
 use Rattle.model.specs.Text.{distinct}
 use Rattle.lines.specs.Lines.{EventRows, eventRows}
 use Rattle.lines.proofs.Found.{GotEvents, events-got, events-missing}
-use Rattle.quick_step_line.specs.Quick.{PackedNames}
+use Rattle.names.specs.Held.{PackedNames}
 use Rattle.reader.specs.Sections.{EventsRead, ReadsEvents}
-use Rattle.reader.proofs.names.PackedNames.{fresh-full, events-rows, events-placed}
+use Rattle.reader.proofs.first_lines.EventRows.{fresh-full, events-rows, events-placed}
 use Rattle.reader.proofs.Phases.{events-fail, events-many, events-twice, events-more}
 use Rattle.reader.proofs.first_lines.declared_events.Statement.{statement}
 use Rattle.reader.proofs.first_lines.declared_events.Tie as tie

@@ -41,8 +41,8 @@ returns-2 : tie.Need-returns-2
 unfolding StepRead
 returns-2 c = step-limit (found (c .before) .read) (c .if1 .taken)
 
-find-event-requires : tie.Need-find-event-requires
-find-event-requires c κs = search needs
+find-name-requires : tie.Need-find-name-requires
+find-name-requires c κs = search needs
 
 all-declared-requires : tie.Need-all-declared-requires
 all-declared-requires c κs = search needs
@@ -51,13 +51,13 @@ returns-3 : tie.Need-returns-3
 unfolding StepRead
 returns-3 c =
     let d = c .before .before .before in
-    step-undeclared (found (d .before)) (d .if1 .left) (c .before .before .find-event .ensures) (sym (c .before .all-declared .ensures) ∙ not-true _ (c .if2 .taken))
+    step-undeclared (found (d .before)) (d .if1 .left) (c .before .before .find-name .ensures) (sym (c .before .all-declared .ensures) ∙ not-true _ (c .if2 .taken))
 
 returns-4 : tie.Need-returns-4
 unfolding StepRead
 returns-4 c =
     let d = c .before .before .before in
-    step-declared (found (d .before)) (d .if1 .left) (c .before .before .find-event .ensures) (sym (c .before .all-declared .ensures) ∙ not-false _ (c .if2 .left))
+    step-declared (found (d .before)) (d .if1 .left) (c .before .before .find-name .ensures) (sym (c .before .all-declared .ensures) ∙ not-false _ (c .if2 .left))
 
 pub read-words-spec : {M : Type 1} → statement M
 read-words-spec =
@@ -69,7 +69,7 @@ read-words-spec =
     returns
     add-line
     returns-2
-    find-event-requires
+    find-name-requires
     all-declared-requires
     returns-3
     returns-4)

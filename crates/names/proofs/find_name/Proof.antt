@@ -1,12 +1,12 @@
--- `reader::find_event` meets its contract: the entries passed are others. The laws are in `PackedNames`.
+-- `names::find_name` meets its contract: the entries passed are others. The laws are in `Lookup`.
 use Prim.Native.Nat.{_-_}
 use native.Mathlib.Omega.{arith}
 use mathlib.Core.Logic.{⊎-elim}
-use Rattle.quick_step_line.specs.Quick.{Same}
+use Rattle.names.specs.Held.{Same}
 use Rattle.rows.proofs.Searches.{Upto, upto-start, upto-more}
-use Rattle.reader.proofs.names.PackedNames.{finds}
-use Rattle.reader.proofs.names.find_event.Statement.{statement}
-use Rattle.reader.proofs.names.find_event.Tie as tie
+use Rattle.names.proofs.Lookup.{finds}
+use Rattle.names.proofs.find_name.Statement.{statement}
+use Rattle.names.proofs.find_name.Tie as tie
 
 abbrev Inv-loop : tie.InvT-loop
 Inv-loop len high low count n h l k₀ k = Upto (λ j. Same len high low n h l j → ⊥) count k
@@ -54,8 +54,8 @@ loop-again c =
 returns-2 : tie.Need-returns-2 Inv-loop μ-loop
 returns-2 c = finds (c .before .loop .inv) (λ b. absurd (omega arith))
 
-pub find-event-spec : {M : Type 1} → statement M
-find-event-spec =
+pub find-name-spec : {M : Type 1} → statement M
+find-name-spec =
     tie.close
     (tie.spec
     Inv-loop

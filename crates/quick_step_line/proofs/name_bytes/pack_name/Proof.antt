@@ -2,8 +2,8 @@
 use borrow.Author.Needs.{needs}
 use denote.Ref.{now}
 use Rattle.quick_step_line.proofs.words.Packing.{packs}
-use Rattle.quick_step_line.proofs.names.pack_name.Statement.{statement}
-use Rattle.quick_step_line.proofs.names.pack_name.Tie as tie
+use Rattle.quick_step_line.proofs.name_bytes.pack_name.Statement.{statement}
+use Rattle.quick_step_line.proofs.name_bytes.pack_name.Tie as tie
 
 at-most-eight-requires : tie.Need-at-most-eight-requires
 at-most-eight-requires c κs = search needs

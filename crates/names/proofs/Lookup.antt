@@ -1,5 +1,4 @@
--- Looking names up in the rows of an events line: the first entry with a name's length and numbers is the event's number, and names are distinct if
--- each is the first of its own.
+-- Looking names up in rows: the first entry with a name's length and numbers is its number, and names are distinct if each is the first of its own.
 use Prim.Native.Nat.{ℕ, _+_, _<_, _≤_}
 use borrow.Author.Count.{below-more}
 use native.Mathlib.Omega.{arith}
@@ -11,22 +10,15 @@ use lib.Dec.{T}
 use lib.ListN.{length, getD}
 use Rattle.model.specs.Lists.{At, exists, index}
 use Rattle.model.specs.Bytes.{Name, IsName, sameName}
-use Rattle.model.specs.Reading.{Parsed}
-use Rattle.model.specs.Form.{Line}
 use Rattle.model.specs.Text.{eventNumber, distinct}
 use Rattle.model.proofs.Laws.{order, dec, not-T, T-true, T-false}
 use Rattle.model.proofs.Positions.{at-below, at-getD, getD-mem, at-value, index-first, index-below, index-passes}
 use Rattle.model.proofs.Values.{same-eq, same-refl, mem-named, distinct-once, not-distinct}
 use Rattle.lexer.specs.Words.{high, low}
 use Rattle.lexer.proofs.Telling.{name-bytes}
-use Rattle.lines.specs.declared.EventsAt.{EventsAt}
-use Rattle.rows.specs.Rows.{row}
-use Rattle.lines.specs.Lines.{spots, namesFrom, EventRows, FullRows, withNames}
-use Rattle.lines.proofs.Found.{GotEvents}
-use Rattle.quick_step_line.specs.Quick.{PackedNames, Same}
-use Rattle.quick_step_line.proofs.HeldNames.{entry, entry-name, entry-told}
-use Rattle.reader.specs.Sections.{Finds, noNames}
 use Rattle.rows.proofs.Searches.{Upto, index-is}
+use Rattle.names.specs.Held.{PackedNames, Same, Finds}
+use Rattle.names.proofs.HeldNames.{entry, entry-name, entry-told}
 
 -- the entry k has what is sought if and only if it is this name
 module _ {es : List Name} {count : ℕ} {lens highs lows : List ℕ} (r : PackedNames es count lens highs lows) (k : ℕ) (b : k < count)
@@ -117,34 +109,3 @@ module _ {count : ℕ} {lens highs lows : List ℕ} {k : ℕ} (f : Firsts count 
 
   pub firsts-end : count ≤ k → (es : List Name) → PackedNames es count lens highs lows → true ≡ distinct es
   firsts-end b es r = alone es (λ j i. f .own es r j (omega (arith, r .counted)))
-
--- rows in which nothing is stored yet
-pub fresh-full : {r : EventRows} → r ≡ noNames → FullRows r
-fresh-full e =
-    record {
-      placed-full = ap (λ (x : EventRows). length (x .placed)) e;
-      lengths-full = ap (λ (x : EventRows). length (x .lengths)) e;
-      highs-full = ap (λ (x : EventRows). length (x .highs)) e;
-      lows-full = ap (λ (x : EventRows). length (x .lows)) e;
-    }
-
--- the rows that an events line leaves in them
-module _ {o : Parsed Line} {at : ℕ} {r : EventsAt} {before after : EventRows} (g : GotEvents o at r before after) (fresh : before ≡ noNames) where
-  stored : after ≡ withNames (namesFrom at) noNames (g .names)
-  stored = rw fresh at (g .rows)
-
-  pub events-rows : r .count ≤ 64 → PackedNames (g .names) (r .count) (after .lengths) (after .highs) (after .lows)
-  unfolding withNames row
-  events-rows few =
-      record {
-        counted = g .counted;
-        most = omega (arith, g .counted);
-        names = g .each;
-        lengths = ap (λ (x : EventRows). x .lengths) stored;
-        high = ap (λ (x : EventRows). x .highs) stored;
-        low = ap (λ (x : EventRows). x .lows) stored;
-      }
-
-  pub events-placed : after .placed ≡ row 64 0 (spots (namesFrom at) (g .names))
-  unfolding withNames row
-  events-placed = ap (λ (x : EventRows). x .placed) stored

@@ -1,4 +1,4 @@
--- The rows of an events line tell its names.
+-- The rows tell the names that they hold.
 use Prim.Native.Nat.{ℕ, _<_}
 use native.Mathlib.Omega.{arith}
 use mathlib.Core.Path.{_≡_, ap, _∙_}
@@ -9,12 +9,12 @@ use lib.ListN.{length, getD}
 use borrow.Author.Tests.{eqb-true}
 use Rattle.model.specs.Lists.{At}
 use Rattle.model.specs.Bytes.{Name, IsName}
+use Rattle.model.proofs.Laws.{both}
 use Rattle.model.proofs.Positions.{at-getD, getD-mem}
 use Rattle.lexer.specs.Words.{high, low}
 use Rattle.lexer.proofs.Telling.{EachByte, told, name-bytes}
 use Rattle.rows.proofs.Rows.{row-at}
-use Rattle.quick_step_line.specs.Quick.{PackedNames, Same}
-use Rattle.quick_step_line.proofs.Standing.{both}
+use Rattle.names.specs.Held.{PackedNames, Same}
 
 module _ {es : List Name} {count : ℕ} {lens highs lows : List ℕ} (r : PackedNames es count lens highs lows) (k : ℕ) (b : k < count) where
   -- the rows tell the name k

@@ -1,9 +1,9 @@
--- `quick_step_line::is_event` meets its contract: the three tests of an entry.
+-- `names::is_name_at` meets its contract: the three tests of an entry.
 use borrow.Author.Needs.{needs}
 use denote.Ref.{now}
-use Rattle.quick_step_line.proofs.HeldNames.{same}
-use Rattle.quick_step_line.proofs.names.is_event.Statement.{statement}
-use Rattle.quick_step_line.proofs.names.is_event.Tie as tie
+use Rattle.names.proofs.HeldNames.{same}
+use Rattle.names.proofs.is_name_at.Statement.{statement}
+use Rattle.names.proofs.is_name_at.Tie as tie
 
 mul-result : tie.Need-mul-result
 mul-result c = search needs
@@ -26,10 +26,10 @@ element-copy-out-result-3 c = search needs
 returns : tie.Need-returns
 returns c =
     let a = c .before .before .before .args in
-    same (now (a .len)) (now (a .high)) (now (a .low)) (a .size) (a .h) (a .l) (a .k)
+    same (now (a .len)) (now (a .high)) (now (a .low)) (a .n) (a .h) (a .l) (a .k)
 
-pub is-event-spec : {M : Type 1} → statement M
-is-event-spec =
+pub is-name-at-spec : {M : Type 1} → statement M
+is-name-at-spec =
     tie.close
     (tie.spec
     mul-result

@@ -1,0 +1,2 @@
+-- the names that rows hold, and what looking one up answers
+pub mod Held

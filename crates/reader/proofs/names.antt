@@ -1,2 +1,0 @@
--- The table of names: looking one up, and that none is there twice.
-pub mod PackedNames
