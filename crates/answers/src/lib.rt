@@ -46,5 +46,6 @@ pub fn numbers(why: Refusal) -> RefusalNumbers
         Refusal::NotExcitationClosed { event, state } => three(12, event, state), // 12 open
         Refusal::BufferTooShort { needed } => three(13, needed, 0), // 13 short sheet
         Refusal::UnknownEvent { position } => three(14, position, 0), // 14 odd call
+        Refusal::BadSheet { line } => three(15, line, 0), // 15 bad sheet
     }
 }

@@ -1,4 +1,4 @@
-// What each refusal of document 01 means, and what to do about it. A detail that is said stands for % (the first) or # (the second).
+// What each refusal means, and what to do about it. A detail that is said stands for % (the first) or # (the second).
 use super::put_filled;
 
 // Of the text's form and bounds.
@@ -65,8 +65,8 @@ fn explain_plan(refusal: usize, first: &[u8], second: &[u8]) {
     }
 }
 
-// Of a machine, and of an event on none.
-fn explain_split(refusal: usize, first: &[u8], second: &[u8]) {
+// Of a machine.
+fn explain_machine(refusal: usize, first: &[u8], second: &[u8]) {
     match refusal {
         8 => put_filled(
             b"doubled: machine % lists state # twice.\n\
@@ -88,19 +88,19 @@ fn explain_split(refusal: usize, first: &[u8], second: &[u8]) {
             first,
             second,
         ),
+        _ => {}
+    }
+}
+
+// Of an event on no machine, and of closure.
+fn explain_split(refusal: usize, first: &[u8], second: &[u8]) {
+    match refusal {
         11 => put_filled(
             b"unheld: event % is on no machine, so the machines together never run it.\n\
               Add a machine in which the steps of event % lead from one place to another.\n",
             first,
             second,
         ),
-        _ => {}
-    }
-}
-
-// Of closure, and of the call.
-fn explain_rest(refusal: usize, first: &[u8], second: &[u8]) {
-    match refusal {
         12 => put_filled(
             b"open: in state # the machines are ready for event %, and the plan is not.\n\
               Add a machine, or divide a place of one, so that state # is outside a place\n\
@@ -111,6 +111,13 @@ fn explain_rest(refusal: usize, first: &[u8], second: &[u8]) {
             first,
             second,
         ),
+        _ => {}
+    }
+}
+
+// Of the call, and of a sheet.
+fn explain_call(refusal: usize, first: &[u8], second: &[u8]) {
+    match refusal {
         13 => put_filled(
             b"short sheet: what was lent is too short for the answer, which needs size %.\n\
               Lend % bytes for a sheet, or % records for steps.\n",
@@ -118,8 +125,21 @@ fn explain_rest(refusal: usize, first: &[u8], second: &[u8]) {
             second,
         ),
         14 => put_filled(
-            b"odd call: the event at position % of the list, from 0, is not declared.\n\
-              Give the name of an event of line 2, or a number below the count of events.\n",
+            b"odd call: the event at position % of the list, from 0, is not declared, or, for\n\
+              a board, on no move of its sheet.\n\
+              Give the name of an event of line 2, or a number below the count of events; to\n\
+              a board, a name as its sheet has it.\n",
+            first,
+            second,
+        ),
+        15 => put_filled(
+            b"bad sheet: line % of the sheet is the first that is faulty, or that is missing.\n\
+              Line 0 stands for the whole sheet, over 32768 bytes.\n\
+              Usual causes: byte 13 before byte 10; no byte 10 after the last line; more or\n\
+              fewer machines than line 1 says; machines not numbered 0, 1, 2 and so on; a\n\
+              start or an end of a move not below the count of places; two ends that are one\n\
+              place; an event twice in a machine; over 64 names. ./split check writes a good\n\
+              sheet from the plan and its split: correct these, not the sheet.\n",
             first,
             second,
         ),
@@ -131,6 +151,7 @@ fn explain_rest(refusal: usize, first: &[u8], second: &[u8]) {
 pub fn put_explanation(refusal: usize, first: &[u8], second: &[u8]) {
     explain_text(refusal, first, second);
     explain_plan(refusal, first, second);
+    explain_machine(refusal, first, second);
     explain_split(refusal, first, second);
-    explain_rest(refusal, first, second);
+    explain_call(refusal, first, second);
 }

@@ -13,7 +13,7 @@ fn put_error(words: &[u8]) {
 
 fn put_usage() {
     put_error(
-        b"; usage: ./split [check [LENT] | steps [LENT] | name EVENT | run [EVENT..] | thin | help [text] | explain REFUSAL [A [B]]] < TEXT, or FILE\n",
+        b"; usage: ./split [check [LENT] | steps [LENT] | name EVENT | run [EVENT..] | thin | sheet [LENT] | board [NAME..] | help [text] | explain REFUSAL [A [B]]] < TEXT, or FILE\n",
     );
 }
 
@@ -63,30 +63,30 @@ pub fn put_too_long() {
 pub fn put_help() {
     io::write_all(
         STDOUT_FILENO,
-        b"Reads a plan and its split on standard input and answers for one service:\n\
-          \n\
-          \x20 ./split               as ./split check\n\
-          \x20 ./split check [LENT]  the boards' sheet, in LENT bytes (32768)\n\
-          \x20 ./split steps [LENT]  the plan's steps by number, in LENT records (1024)\n\
-          \x20 ./split name EVENT    the name of an event\n\
-          \x20 ./split run [EVENT..] runs the events, in this order, on the machines together\n\
-          \x20 ./split thin          drops machines that add nothing, and lists those kept\n\
-          \x20 ./split help [text]   this screen; with text: how a text is written\n\
+        b"Reads a plan and its split, or a sheet, and answers for one service:\n\
+          \x20 ./split check [LENT]   the boards' sheet, in LENT bytes (32768); also ./split\n\
+          \x20 ./split steps [LENT]   the plan's steps by number, in LENT records (1024)\n\
+          \x20 ./split name EVENT     the name of an event\n\
+          \x20 ./split run [EVENT..]  runs the events in this order on the machines together\n\
+          \x20 ./split thin           drops machines that add nothing, and lists those kept\n\
+          \x20 ./split sheet [LENT]   of a sheet: its machines, written again as check does\n\
+          \x20 ./split board [NAME..] of a sheet: runs the events of these names, as run does\n\
+          \x20 ./split help [text]    this screen, as -h; with text: how a text is written\n\
           \x20 ./split explain REFUSAL [A [B]]  what it means, and what to do about it\n\
           \n\
-          EVENT is a name, or a number counted from 0 as line 2 lists the events.\n\
-          The text may also be a file: a word with a dot or a slash, or -f FILE. Words are\n\
-          counted without it. Status 0: answered, 1: refused, 2: no call, or nothing could\n\
-          be read or written. --version: the commit and the kit; -h, --help: this screen.\n\
+          EVENT is a name, or a number from 0 as line 2 lists the events. A word with a\n\
+          dot or a slash, or -f FILE, is the file to read and not counted. --version: the\n\
+          commit and the kit. Status 0: answered, 1: refused, 2: no call, or nothing read.\n\
           \n\
           (refused N A B) says why a call is refused; REFUSAL is N or its (first) word:\n\
-          \x20  1 misformed   line A                   8 doubled     machine A, state B\n\
-          \x20  2 oversize    line A; 0: the text      9 missing     machine A, state B\n\
-          \x20  3 stranger    line A                  10 uneven      machine A, event B\n\
-          \x20  4 standstill  line A                  11 unheld      event A\n\
-          \x20  5 fork        line A, earlier line B  12 open        event A, state B\n\
-          \x20  6 idle event  event A                 13 short sheet size needed A\n\
-          \x20  7 unreached   state A                 14 odd call    position A\n",
+          \x20  1 misformed   line A                   9 missing     machine A, state B\n\
+          \x20  2 oversize    line A; 0: the text     10 uneven      machine A, event B\n\
+          \x20  3 stranger    line A                  11 unheld      event A\n\
+          \x20  4 standstill  line A                  12 open        event A, state B\n\
+          \x20  5 fork        line A, earlier line B  13 short sheet size needed A\n\
+          \x20  6 idle event  event A                 14 odd call    position A\n\
+          \x20  7 unreached   state A                 15 bad sheet   line A; 0: the sheet\n\
+          \x20  8 doubled     machine A, state B\n",
     );
 }
 

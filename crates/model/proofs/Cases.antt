@@ -27,7 +27,8 @@ caseOf r = from 1 (C.Malformed a)
     (from 11 (C.IneffectiveEvent a)
     (from 12 (C.NotExcitationClosed a b)
     (from 13 (C.BufferTooShort a)
-    (from 14 (C.UnknownEvent a) (C.Malformed 0))))))))))))))
+    (from 14 (C.UnknownEvent a)
+    (from 15 (C.BadSheet a) (C.Malformed 0)))))))))))))))
   where
     a : ℕ
     a = r .detail
@@ -54,6 +55,7 @@ case-of-tabled (C.IneffectiveEvent event) = refl
 case-of-tabled (C.NotExcitationClosed event state) = refl
 case-of-tabled (C.BufferTooShort needed) = refl
 case-of-tabled (C.UnknownEvent position) = refl
+case-of-tabled (C.BadSheet line) = refl
 
 pub tabled-injective : (x y : D.Refusal) → tabled x ≡ tabled y → x ≡ y
 tabled-injective x y e = sym (case-of-tabled x) ∙ ap caseOf e ∙ case-of-tabled y

@@ -22,6 +22,7 @@ tabled (C.IneffectiveEvent event) = refuse 11 event 0
 tabled (C.NotExcitationClosed event state) = refuse 12 event state
 tabled (C.BufferTooShort needed) = refuse 13 needed 0
 tabled (C.UnknownEvent position) = refuse 14 position 0
+tabled (C.BadSheet line) = refuse 15 line 0
 
 -- a step record: from-state, event number, to-state
 unfoldable pub recorded : T.Transition → Transition

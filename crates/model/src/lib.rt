@@ -51,4 +51,6 @@ pub enum Refusal {
     BufferTooShort { needed: usize },
     // 14 odd call
     UnknownEvent { position: usize },
+    // 15 bad sheet; line 0 is the whole sheet
+    BadSheet { line: usize },
 }

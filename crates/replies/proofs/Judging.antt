@@ -12,7 +12,7 @@ use types.Run.{OneOf, miss}
 use lib.Dec.{leb}
 use lib.ListN.{length, take, drop, drop-of-length-le}
 use Rattle.model.specs.declared.Refusal.{Refusal}
-use Rattle.model.specs.declared.Refusal.the-variants.{Malformed, LimitExceeded, Undeclared, SelfLoop, Nondeterministic, UnusedEvent, Unreachable, DuplicateState, UncoveredState, NotARegion, IneffectiveEvent, NotExcitationClosed, BufferTooShort, UnknownEvent}
+use Rattle.model.specs.declared.Refusal.the-variants.{Malformed, LimitExceeded, Undeclared, SelfLoop, Nondeterministic, UnusedEvent, Unreachable, DuplicateState, UncoveredState, NotARegion, IneffectiveEvent, NotExcitationClosed, BufferTooShort, UnknownEvent, BadSheet}
 use Rattle.model.specs.Bytes.{bytes, decimal}
 use Rattle.model.specs.Cases.{tabled}
 use Rattle.model.proofs.Laws.{order}
@@ -55,7 +55,7 @@ module _ {w s : List ℕ} {n at : ℕ} (u : Unlike w s n at) where
 
 -- ---- the refusal that a word says
 
-pub names-in-row : wordsIn (bytes "misformed\0oversize\0stranger\0standstill\0fork\0idle\0unreached\0doubled\0missing\0uneven\0unheld\0open\0short\0odd") ≡ refusalNames
+pub names-in-row : wordsIn (bytes "misformed\0oversize\0stranger\0standstill\0fork\0idle\0unreached\0doubled\0missing\0uneven\0unheld\0open\0short\0odd\0bad") ≡ refusalNames
 unfolding wordsIn begunBy
 names-in-row = refl
 
@@ -76,6 +76,7 @@ each-explained (IneffectiveEvent e) = refl
 each-explained (NotExcitationClosed e q) = refl
 each-explained (BufferTooShort n) = refl
 each-explained (UnknownEvent p) = refl
+each-explained (BadSheet l) = refl
 
 -- by what the code finds: a number as far as 65535, or none
 module _ (w : List ℕ) (r : Said) (p : said r ≡ numberSaid 65535 w) where
@@ -95,7 +96,7 @@ module _ (w : List ℕ) (r : Said) (p : said r ≡ numberSaid 65535 w) where
       where
         go : (d < 65535) ⊎ (65535 ≤ d) → cond t n 0 ≡ cond (isRefusal d) d 0
         go (inl l) = let y : n ≡ d = omega arith in rw (q, y)
-        go (inr l) = let y : n ≡ 65535 = omega arith in rw (q, y, lt-leb d 14 (omega arith), and-false)
+        go (inr l) = let y : n ≡ 65535 = omega arith in rw (q, y, lt-leb d 15 (omega arith), and-false)
 
     by-number : cond t n 0 ≡ refusalSaid w
     unfolding said numberSaid refusalSaid

@@ -17,13 +17,13 @@ pub record RepliesToWords : Type 0 where
   pub explained-details : replyAsked (bytes "explain" ∷ bytes "12" ∷ bytes "0" ∷ bytes "2" ∷ []) ≡ R.Explanation 12
   pub explained-none : replyAsked (bytes "explain" ∷ []) ≡ R.Usage 2
   pub explained-0 : replyAsked (bytes "explain" ∷ bytes "0" ∷ []) ≡ R.Usage 2
-  pub explained-15 : replyAsked (bytes "explain" ∷ bytes "15" ∷ []) ≡ R.Usage 2
+  pub explained-16 : replyAsked (bytes "explain" ∷ bytes "16" ∷ []) ≡ R.Usage 2
   pub explained-three : replyAsked (bytes "explain" ∷ bytes "1" ∷ bytes "2" ∷ bytes "3" ∷ bytes "4" ∷ []) ≡ R.Usage 5
   pub unknown : replyAsked (bytes "chek" ∷ bytes "5" ∷ []) ≡ R.Usage 1
   pub unnamed : replyAsked (bytes "name" ∷ []) ≡ R.Usage 2
   pub no-event : replyAsked (bytes "run" ∷ bytes "ready" ∷ bytes "Brake" ∷ []) ≡ R.Usage 3
   pub first-of-two : replyAsked (bytes "run" ∷ bytes "Ready" ∷ bytes "Brake" ∷ []) ≡ R.Usage 2
-  pub each-name : map refusalSaid refusalNames ≡ 1 ∷ 2 ∷ 3 ∷ 4 ∷ 5 ∷ 6 ∷ 7 ∷ 8 ∷ 9 ∷ 10 ∷ 11 ∷ 12 ∷ 13 ∷ 14 ∷ []
+  pub each-name : map refusalSaid refusalNames ≡ 1 ∷ 2 ∷ 3 ∷ 4 ∷ 5 ∷ 6 ∷ 7 ∷ 8 ∷ 9 ∷ 10 ∷ 11 ∷ 12 ∷ 13 ∷ 14 ∷ 15 ∷ []
   pub served : replyAsked (bytes "run" ∷ bytes "ready" ∷ bytes "1" ∷ []) ≡ R.Service
 
 pub replies : RepliesToWords
@@ -39,7 +39,7 @@ replies =
       explained-details = refl;
       explained-none = refl;
       explained-0 = refl;
-      explained-15 = refl;
+      explained-16 = refl;
       explained-three = refl;
       unknown = refl;
       unnamed = refl;

@@ -11,9 +11,9 @@ use Rattle.replies.specs.declared.Reply.the-variants as R
 use Rattle.command_line.specs.Words.{sameWord, isNumeral, isNameWord}
 use Rattle.command_line.specs.Program.{serviceAsked, furtherWords}
 
--- document 01 has refusals 1 to 14
+-- documents 01 and 02 have refusals 1 to 15
 unfoldable pub isRefusal : ℕ → Bool
-isRefusal n = leb 1 n && leb n 14
+isRefusal n = leb 1 n && leb n 15
 
 -- their names there, the first word of each
 abbrev pub refusalNames : List (List ℕ)
@@ -32,6 +32,7 @@ refusalNames =
     ∷ bytes "open"
     ∷ bytes "short"
     ∷ bytes "odd"
+    ∷ bytes "bad"
     ∷ []
 
 -- the number of a word among others, which are counted from n; 0: it is not there

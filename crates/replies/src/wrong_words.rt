@@ -12,12 +12,12 @@ use command_line::second_word;
 use command_line::service_asked;
 use command_line::word_end;
 
-// Document 01 has refusals 1 to 14.
+// Documents 01 and 02 have refusals 1 to 15.
 fn is_refusal(n: usize) -> bool
     ensures { λ r. ⌜ r ≡ isRefusal n ⌝ }
 {
     if 1 <= n {
-        return n <= 14;
+        return n <= 15;
     }
     false
 }
@@ -45,7 +45,7 @@ fn refusal_named(word: &[u8]) -> usize
 {
     number_in(
         word,
-        b"misformed\0oversize\0stranger\0standstill\0fork\0idle\0unreached\0doubled\0missing\0uneven\0unheld\0open\0short\0odd",
+        b"misformed\0oversize\0stranger\0standstill\0fork\0idle\0unreached\0doubled\0missing\0uneven\0unheld\0open\0short\0odd\0bad",
     )
 }
 

@@ -50,6 +50,7 @@ tabled-numbered (C.IneffectiveEvent event) = omega arith
 tabled-numbered (C.NotExcitationClosed event state) = omega arith
 tabled-numbered (C.BufferTooShort needed) = omega arith
 tabled-numbered (C.UnknownEvent position) = omega arith
+tabled-numbered (C.BadSheet line) = omega arith
 
 -- ---- check and steps
 

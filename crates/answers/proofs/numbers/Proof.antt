@@ -89,6 +89,12 @@ enum-known-why-14 c = search needs
 three-requires-14 : tie.Need-three-requires-14
 three-requires-14 c κs = search needs
 
+enum-known-why-15 : tie.Need-enum-known-why-15
+enum-known-why-15 c = search needs
+
+three-requires-15 : tie.Need-three-requires-15
+three-requires-15 c κs = search needs
+
 returns : tie.Need-returns
 unfolding numbered tabled
 returns c = rw (c .three .ensures, c .before .before .why .given .1)
@@ -145,6 +151,10 @@ returns-14 : tie.Need-returns-14
 unfolding numbered tabled
 returns-14 c = rw (c .three14 .ensures, c .before .before .why14 .given .1)
 
+returns-15 : tie.Need-returns-15
+unfolding numbered tabled
+returns-15 c = rw (c .three15 .ensures, c .before .before .why15 .given .1)
+
 pub numbers-spec : {M : Type 1} → statement M
 numbers-spec =
     tie.close
@@ -177,6 +187,8 @@ numbers-spec =
     three-requires-13
     enum-known-why-14
     three-requires-14
+    enum-known-why-15
+    three-requires-15
     returns
     returns-2
     returns-3
@@ -190,4 +202,5 @@ numbers-spec =
     returns-11
     returns-12
     returns-13
-    returns-14)
+    returns-14
+    returns-15)
