@@ -16,7 +16,7 @@ use Rattle.model.specs.Bytes.{Name, IsName, OneEvent}
 use Rattle.model.specs.Sheet.{Board, writtenSheet}
 use Rattle.model.specs.Services.{lend, outcomeOf, refusedBy, RunAnswer, ranAnswer}
 use Rattle.model.specs.Board.{readSheet, rewrite, moveOn, startPlaces, splitNames, runNames, boardRun}
-use Rattle.model.specs.BoardTable.{OnSheet, SaysSheet, ended, Unbroken, OddName, SheetRefused, Loads, BoardRefuses}
+use Rattle.model.specs.BoardTable.{OnSheet, SaysSheet, ended, Unbroken, OddName, NamesOf, SheetRefused, Loads, BoardRefuses}
 use Rattle.model.specs.Demands.{Lends}
 use Rattle.model.proofs.Laws.{dec, T-true, T-false, not-T, contra, and-l, and-r, and-i, cond-false, exists-intro, every-elim, not-every-elim}
 use Rattle.model.proofs.ListLaws.{flatMap-append}
@@ -204,6 +204,20 @@ pub record Known (b : Board) (t : List ℕ) : Type 0 where
   pub all : T (every (effective moveOn b) (listed t))
   pub ends : t ≡ flatMap ended (listed t)
 
+all-known : (b : Board) (t : List ℕ) → T (fine b (listed t) (left t)) → Known b t
+all-known b t x =
+    record {
+      all = and-l (every (effective moveOn b) (listed t)) (isEmpty (left t)) x;
+      ends = split-list t .list ∙ ap (λ (l : List ℕ). flatMap ended (listed t) ++ l) (empty (left t) (and-r (every (effective moveOn b) (listed t)) (isEmpty (left t)) x)) ∙ append-nil (flatMap ended (listed t));
+    }
+
+pub board-lists : (b : Board) (t : List ℕ) → NamesOf (OnSheet b) t ⊎ ((k : ℕ) × OddName (OnSheet b) t k)
+board-lists b t = go (dec (fine b (listed t) (left t)))
+  where
+    go : T (fine b (listed t) (left t)) ⊎ T (not (fine b (listed t) (left t))) → NamesOf (OnSheet b) t ⊎ ((k : ℕ) × OddName (OnSheet b) t k)
+    go (inl x) = let w = all-known b t x in inl (listed t, λ e m. on-sheet b e (every-elim (effective moveOn b) (listed t) (w .all) e m), w .ends)
+    go (inr x) = inr (index (strange b) (listed t), odd-name b t (listed t) (left t) (split-list t) x)
+
 -- what the board answers
 pub data BoardView (s t : List ℕ) : Type 0 where
   bad-sheet : (r : Refusal) → boardRun s t ≡ ranAnswer (refused r) → SheetRefused s r → BoardView s t
@@ -217,10 +231,7 @@ board-view s t = go (sheet-loaded s)
     runs : (b : Board) → SaysSheet s b → readSheet s ≡ passed b → T (fine b (listed t) (left t)) ⊎ T (not (fine b (listed t) (left t))) → BoardView s t
     runs b w e (inl x) =
         ran b (rw e (ap ranAnswer (runs-fine b (listed t) (left t) x))) w
-        (record {
-          all = and-l (every (effective moveOn b) (listed t)) (isEmpty (left t)) x;
-          ends = split-list t .list ∙ ap (λ (l : List ℕ). flatMap ended (listed t) ++ l) (empty (left t) (and-r (every (effective moveOn b) (listed t)) (isEmpty (left t)) x)) ∙ append-nil (flatMap ended (listed t));
-        })
+        (all-known b t x)
         (λ k o. contra (fine b (listed t) (left t)) (name-odd b t k (sheet-unbroken s b w) o .0) x)
     runs b w e (inr x) = odd-call b (index (strange b) (listed t)) (rw e (ap ranAnswer (runs-odd b (listed t) (left t) x))) w (odd-name b t (listed t) (left t) (split-list t) x)
 

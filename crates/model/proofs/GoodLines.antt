@@ -14,7 +14,7 @@ use Rattle.model.specs.Bytes.{Name, OneEvent}
 use Rattle.model.specs.Text.{distinct}
 use Rattle.model.specs.Sheet.{NamedMove, NamedLine, Board, writtenMove, moveBytes, writtenLine, writtenCount, writtenSheet}
 use Rattle.model.specs.Board.{isGoodMove, namesOn, isGoodLine}
-use Rattle.model.specs.BoardTable.{GoodMove, GoodLine, Opens, line, SaysSheet}
+use Rattle.model.specs.BoardTable.{GoodMove, GoodLine, BeginsSheet, line, SaysSheet}
 use Rattle.model.proofs.Laws.{contra, and-l, and-r, and-i, neqb, eqb-of, every-elim, every-intro}
 use Rattle.model.proofs.ListLaws.{flatMap-append}
 use Rattle.model.proofs.Positions.{at-below, mem-at, at-middle}
@@ -141,7 +141,7 @@ lines-last b l rest =
 
 module _ (s : List ℕ) (n : ℕ) (b : Board) where
   -- one line more
-  pub opens-next : (l : NamedLine) (rest after : List ℕ) → Opens s n b rest → length b < n → GoodLine b l → rest ≡ writtenLine l ++ after → Opens s n (b ++ (l ∷ [])) after
+  pub opens-next : (l : NamedLine) (rest after : List ℕ) → BeginsSheet s n b rest → length b < n → GoodLine b l → rest ≡ writtenLine l ++ after → BeginsSheet s n (b ++ (l ∷ [])) after
   opens-next l rest after o h g e =
       record {
         least = o .least;
@@ -158,7 +158,7 @@ module _ (s : List ℕ) (n : ℕ) (b : Board) where
           (subst (λ (c : Board). GoodLine c x) (sym (take-append-seam b (l ∷ []))) (subst (GoodLine b) (sym (a .1)) g))
 
   -- what one line more says of the bytes after these
-  pub next-opens : (l : NamedLine) (rest after : List ℕ) → Opens s n b rest → Opens s n (b ++ (l ∷ [])) after → (length b < n) × GoodLine b l × (rest ≡ writtenLine l ++ after)
+  pub next-opens : (l : NamedLine) (rest after : List ℕ) → BeginsSheet s n b rest → BeginsSheet s n (b ++ (l ∷ [])) after → (length b < n) × GoodLine b l × (rest ≡ writtenLine l ++ after)
   next-opens l rest after o q = (
     omega (arith, q .few, length-append b (l ∷ [])),
     subst (λ (c : Board). GoodLine c l) (take-append-seam b (l ∷ [])) (q .good (length b) l (at-middle b [] l)),
@@ -168,11 +168,11 @@ module _ (s : List ℕ) (n : ℕ) (b : Board) where
   )
 
   -- the position after them
-  pub opens-at : (rest : List ℕ) → Opens s n b rest → drop (0 + length (writtenCount n) + length (flatMap writtenLine b)) s ≡ rest
+  pub opens-at : (rest : List ℕ) → BeginsSheet s n b rest → drop (0 + length (writtenCount n) + length (flatMap writtenLine b)) s ≡ rest
   opens-at rest o = past s (0 + length (writtenCount n)) (flatMap writtenLine b) rest (past s 0 (writtenCount n) (flatMap writtenLine b ++ rest) (o .bytes))
 
   -- the end of a good sheet
-  pub opens-says : length s ≤ 32768 → length b ≡ n → Opens s n b [] → SaysSheet s b
+  pub opens-says : length s ≤ 32768 → length b ≡ n → BeginsSheet s n b [] → SaysSheet s b
   unfolding writtenSheet
   opens-says h q o =
       (w, record { least = omega (arith, o .least); most = omega (arith, o .most); good = o .good; size = subst (λ (x : List ℕ). length x ≤ 32768) w h })
@@ -180,7 +180,7 @@ module _ (s : List ℕ) (n : ℕ) (b : Board) where
       w : s ≡ writtenSheet b
       w = o .bytes ∙ ap (λ (x : List ℕ). writtenCount n ++ x) (append-nil (flatMap writtenLine b)) ∙ ap (λ (k : ℕ). writtenCount k ++ flatMap writtenLine b) (sym q)
 
-pub says-opens : (s : List ℕ) (b : Board) → SaysSheet s b → Opens s (length b) b []
+pub says-opens : (s : List ℕ) (b : Board) → SaysSheet s b → BeginsSheet s (length b) b []
 unfolding writtenSheet
 says-opens s b (e, g) =
     record {
@@ -221,7 +221,7 @@ lines-end (l ∷ b) h =
     count-append (eqb 10) (writtenLine l) (flatMap writtenLine b)
     ∙ omega (arith, line-ends l (h l (List·Memᴰ·head refl)), lines-end b (λ k m. h k (List·Memᴰ·tail m)))
 
-pub sheet-lines : (s : List ℕ) (n : ℕ) (b : Board) (rest : List ℕ) → Opens s n b rest → ends s ≡ suc (length b) + ends rest
+pub sheet-lines : (s : List ℕ) (n : ℕ) (b : Board) (rest : List ℕ) → BeginsSheet s n b rest → ends s ≡ suc (length b) + ends rest
 sheet-lines s n b rest o =
     ap ends (o .bytes) ∙ count-append (eqb 10) (writtenCount n) (flatMap writtenLine b ++ rest)
     ∙ omega (

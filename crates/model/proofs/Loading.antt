@@ -13,7 +13,7 @@ use Rattle.model.specs.Refusal.{refuse, Checked, refused, passed, need, 
 use Rattle.model.specs.Reading.{Parsed, fail, got}
 use Rattle.model.specs.Sheet.{NamedLine, Board, writtenLine, writtenCount, lineForm, countForm}
 use Rattle.model.specs.Board.{isGoodLine, machineThen, machinesFrom, countThen, readSheet}
-use Rattle.model.specs.BoardTable.{GoodLine, Opens, BadSheet, too-long, line-1, line, SaysSheet}
+use Rattle.model.specs.BoardTable.{GoodLine, BeginsSheet, BadSheet, too-long, line-1, line, SaysSheet}
 use Rattle.model.proofs.Laws.{dec, T-true, T-false, not-T, contra, and-l, and-r, and-i, order}
 use Rattle.model.proofs.Words.{Spans, inside, past}
 use Rattle.model.proofs.SheetForms.{LineFormed, line-complete, line-sound, line-positive, count-complete, count-sound}
@@ -23,12 +23,12 @@ use Rattle.model.proofs.GoodLines.{good-line, line-good, formed-of, ope
 
 -- what the reader finds after these lines
 pub data Next (s : List ℕ) (n : ℕ) (b : Board) (at : ℕ) : Type 0 where
-  stands : (l : NamedLine) (next : ℕ) → lineForm s at ≡ got l next → T (isGoodLine b l) → next ≤ length s → at < next → Opens s n (b ++ (l ∷ [])) (drop next s) → Next s n b at
+  stands : (l : NamedLine) (next : ℕ) → lineForm s at ≡ got l next → T (isGoodLine b l) → next ≤ length s → at < next → BeginsSheet s n (b ++ (l ∷ [])) (drop next s) → Next s n b at
   misses : ((rest : Board → ℕ → Checked Board) → machineThen b (lineForm s at) rest ≡ refused (refuse 15 (length b + 2) 0))
-      → ((l : NamedLine) (after : List ℕ) → ¬ Opens s n (b ++ (l ∷ [])) after) → Next s n b at
+      → ((l : NamedLine) (after : List ℕ) → ¬ BeginsSheet s n (b ++ (l ∷ [])) after) → Next s n b at
 
-good-found : (s : List ℕ) (n : ℕ) (b : Board) (at : ℕ) (rest : List ℕ) → drop at s ≡ rest → Opens s n b rest
-    → (l : NamedLine) (after : List ℕ) → Opens s n (b ++ (l ∷ [])) after → T (isGoodLine b l) × (lineForm s at ≡ got l (at + length (writtenLine l)))
+good-found : (s : List ℕ) (n : ℕ) (b : Board) (at : ℕ) (rest : List ℕ) → drop at s ≡ rest → BeginsSheet s n b rest
+    → (l : NamedLine) (after : List ℕ) → BeginsSheet s n (b ++ (l ∷ [])) after → T (isGoodLine b l) × (lineForm s at ≡ got l (at + length (writtenLine l)))
 good-found s n b at rest d o l after q =
     let w = next-opens s n b l rest after o q in
     (line-good b l (w .1), line-complete l (formed-of b l (omega (arith, o .few, o .most)) (w .1)) s at after tt (d ∙ w .2))
@@ -39,7 +39,7 @@ got-same o x y m n p q = cc
 fail-got : {A : Type 0} (o : Parsed A) (x : A) (m : ℕ) → o ≡ fail → o ≡ got x m → ⊥
 fail-got o x m p q = let z : _≡_ {A = ℕ} 0 1 = cc in omega arith
 
-next-view : (s : List ℕ) (n : ℕ) (b : Board) (at : ℕ) → at ≤ length s → length b < n → Opens s n b (drop at s) → Next s n b at
+next-view : (s : List ℕ) (n : ℕ) (b : Board) (at : ℕ) → at ≤ length s → length b < n → BeginsSheet s n b (drop at s) → Next s n b at
 unfolding machineThen
 next-view s n b at h few o = go (lineForm s at) refl
   where
@@ -67,21 +67,21 @@ drop-empty : (s : List ℕ) (at : ℕ) → at < length s → ¬ (drop at s ≡ [
 drop-empty s at h e = omega (arith, simp length-drop at (ap length e))
 
 module _ (s : List ℕ) (short : length s ≤ 32768) where
-  loop : (k n : ℕ) (b : Board) (at : ℕ) → at ≤ length s → length b + k ≡ n → Opens s n b (drop at s) → Loaded s (machinesFrom k s b at)
+  loop : (k n : ℕ) (b : Board) (at : ℕ) → at ≤ length s → length b + k ≡ n → BeginsSheet s n b (drop at s) → Loaded s (machinesFrom k s b at)
   unfolding machinesFrom machineThen
   loop zero n b at h q o = go (dec (leb (length s) at))
     where
       go : T (leb (length s) at) ⊎ T (not (leb (length s) at)) → Loaded s (need (refuse 15 (length b + 2) 0) (leb (length s) at) >> passed b)
       go (inl t) =
           rw (T-true (leb (length s) at) t)
-          (loaded b refl (opens-says s n b short (omega arith) (subst (Opens s n b) (drop-of-length-le s (leb→le (length s) at t)) o)))
+          (loaded b refl (opens-says s n b short (omega arith) (subst (BeginsSheet s n b) (drop-of-length-le s (leb→le (length s) at t)) o)))
       go (inr t) =
           rw (T-false (leb (length s) at) t)
           (bad (length b + 2) refl (line short n b (drop at s) o (λ w. drop-empty s at (nleb→lt (length s) at t) (w .1))
           (λ l after p. omega (arith, p .few, length-append b (l ∷ []), q))))
   loop (suc k) n b at h q o = go (next-view s n b at h (omega arith) o) (loop k n)
     where
-      go : Next s n b at → ((c : Board) (to : ℕ) → to ≤ length s → length c + k ≡ n → Opens s n c (drop to s) → Loaded s (machinesFrom k s c to))
+      go : Next s n b at → ((c : Board) (to : ℕ) → to ≤ length s → length c + k ≡ n → BeginsSheet s n c (drop to s) → Loaded s (machinesFrom k s c to))
           → Loaded s (machineThen b (lineForm s at) (machinesFrom k s))
       go (stands l next e t i j p) ih = rw (e, T-true (isGoodLine b l) t) (ih (b ++ (l ∷ [])) next i (simp length-append (omega arith)) p)
       go (misses e f) ih = rw (e (machinesFrom k s)) (bad (length b + 2) refl (line short n b (drop at s) o (λ w. omega (arith, w .0, q)) f))
@@ -117,10 +117,10 @@ module _ (s : List ℕ) (short : length s ≤ 32768) where
   abbrev counts : ℕ → Bool
   counts n = leb 1 n && leb n 16
 
-  counts-of : (n : ℕ) (rest : List ℕ) → Opens s n [] rest → T (counts n)
+  counts-of : (n : ℕ) (rest : List ℕ) → BeginsSheet s n [] rest → T (counts n)
   counts-of n rest o = and-i (leb 1 n) (leb n 16) (le→leb 1 n (o .least)) (le→leb n 16 (o .most))
 
-  opens-1 : (n next : ℕ) → T (counts n) → Spans s 0 (writtenCount n) next → Opens s n [] (drop next s)
+  opens-1 : (n next : ℕ) → T (counts n) → Spans s 0 (writtenCount n) next → BeginsSheet s n [] (drop next s)
   unfolding flatMap
   opens-1 n next t p =
       record {
@@ -131,11 +131,11 @@ module _ (s : List ℕ) (short : length s ≤ 32768) where
         bytes = p .bytes;
       }
 
-  count-found : (n : ℕ) (b : Board) (rest : List ℕ) → Opens s n b rest → countForm s 0 ≡ got n (0 + length (writtenCount n))
+  count-found : (n : ℕ) (b : Board) (rest : List ℕ) → BeginsSheet s n b rest → countForm s 0 ≡ got n (0 + length (writtenCount n))
   count-found n b rest o = count-complete n (omega (arith, o .most)) s 0 (flatMap writtenLine b ++ rest) tt (o .bytes)
 
   -- a sheet that begins so is read as far
-  opens-read : (n k : ℕ) (b : Board) (rest : List ℕ) → n ≡ length b + k → Opens s n b rest
+  opens-read : (n k : ℕ) (b : Board) (rest : List ℕ) → n ≡ length b + k → BeginsSheet s n b rest
       → readSheet s ≡ machinesFrom k s b (0 + length (writtenCount n) + length (flatMap writtenLine b))
   unfolding countThen
   opens-read n k b rest q o =
@@ -162,7 +162,7 @@ module _ (s : List ℕ) (short : length s ≤ 32768) where
   says-read : (b : Board) → SaysSheet s b → readSheet s ≡ passed b
   unfolding machinesFrom
   says-read b w =
-      let o : Opens s (length b) b [] = says-opens s b w in
+      let o : BeginsSheet s (length b) b [] = says-opens s b w in
       let at = 0 + length (writtenCount (length b)) + length (flatMap writtenLine b) in
       let d : drop at s ≡ [] = opens-at s (length b) b [] o in
       opens-read (length b) 0 b [] (omega arith) o
@@ -198,7 +198,7 @@ module _ (s : List ℕ) (short : length s ≤ 32768) where
           end : T (leb (length s) at) ⊎ T (not (leb (length s) at)) → (need (refuse 15 (length b + 2) 0) (leb (length s) at) >> passed b) ≡ refused (refuse 15 (length b + 2) 0)
           end (inl t) = absurd (w (omega arith, sym d ∙ drop-of-length-le s (leb→le (length s) at t)))
           end (inr t) = rw (T-false (leb (length s) at) t)
-      go (suc k) q = opens-read n (suc k) b rest q o ∙ by (next-view s n b at within (omega arith) (subst (Opens s n b) (sym d) o))
+      go (suc k) q = opens-read n (suc k) b rest q o ∙ by (next-view s n b at within (omega arith) (subst (BeginsSheet s n b) (sym d) o))
         where
           by : Next s n b at → machineThen b (lineForm s at) (machinesFrom k s) ≡ refused (refuse 15 (length b + 2) 0)
           by (stands x next e t i j p) = absurd (f x (drop next s) p)

@@ -141,4 +141,4 @@ module _ (v : Input) (w : Limits v) (g : (m : Machine) → List·Memᴰ m (v .ma
               ∙ answers es (spells-low ws es a) .ran-whole .1 r
 
       pub own-sheet : OwnSheet s v
-      own-sheet = record { good = good-sheet v w g; names = known; either = either; spelt = runs-alike; odd = odd; runs = whole-is }
+      own-sheet = record { either = either; spelt = runs-alike; odd = odd; runs = whole-is }

@@ -1,7 +1,7 @@
 -- The sheet of an accepted text: it is good, and a board that has it alone runs the lists that the plan runs.
 use Prim.Native.Nat.{ℕ, suc, _+_, _≤_, _<_}
 use native.Mathlib.Omega.{arith}
-use mathlib.Core.Path.{_≡_, refl, ap, sym, _∙_, subst}
+use mathlib.Core.Path.{_≡_, refl, ap, sym, _∙_, subst, subst₂}
 use mathlib.Core.Logic.{_⊎_, inl, inr}
 use mathlib.Core.List.{List, [], _∷_, _++_, map, List·Memᴰ, List·Memᴰ·head, List·Memᴰ·tail, List·Memᴰ·append-cases, List·Memᴰ·eq-of-singleton}
 use mathlib.Core.Option.{Option, none, some, Option·some-injective, Option·none-ne-some}
@@ -10,6 +10,7 @@ use lib.Seq.{length-take-le}
 use Rattle.model.specs.Lists.{At}
 use Rattle.model.specs.TransitionSystem.{TransitionSystem, declared}
 use Rattle.model.specs.Product.{Move}
+use Rattle.model.specs.Region.{Arc}
 use Rattle.model.specs.Machine.{Machine, Decomposition, placeOf, places, move}
 use Rattle.model.specs.Bytes.{Name, IsName, OneEvent}
 use Rattle.model.specs.Text.{Input, system, Limits}
@@ -19,16 +20,16 @@ use Rattle.model.specs.BoardTable.{OnSheet, FewNames, GoodLine, SaysShee
 use Rattle.model.specs.Demands.{Spells, SpellsOne, Shows, Sheet}
 use Rattle.model.proofs.Laws.{order}
 use Rattle.model.proofs.ListLaws.{map-mem}
-use Rattle.model.proofs.Positions.{at-below, below-at, at-mem, mem-at, at-getD, at-value, getD-mem}
+use Rattle.model.proofs.Positions.{at-below, below-at, at-mem, mem-at, at-same, at-getD, at-value, getD-mem}
 use Rattle.model.proofs.Bounds.{Within, Listed}
 use Rattle.model.proofs.Places.{Good}
 use Rattle.model.proofs.Moves.{MoveView, moves, stays, move-view, moveOf}
 use Rattle.model.proofs.SheetMoves.{MoveOnView, moved, stayed, move-on}
 use Rattle.model.proofs.Limits.{within-of}
-use Rattle.model.proofs.Sheets.{entry, in-moves, moves-in, rising, at-lines, lines-length, lines-shown, place-low, move-low, board-length, sheet-fits}
-use Rattle.model.proofs.OneEvent.{one-sym, one-trans}
+use Rattle.model.proofs.Sheets.{entry, in-moves, moves-in, moves-iff, rising, at-lines, lines-length, place-low, move-low, board-length, sheet-fits}
+use Rattle.model.proofs.OneEvent.{one-refl, one-sym, one-trans}
+use Rattle.model.proofs.Arcs.{in-place}
 use Rattle.model.proofs.GoodLines.{at-map}
-use Rattle.model.proofs.Loading.{says-loaded}
 use Rattle.model.proofs.BoardCalls as B
 
 -- names of which no two are one event: the positions
@@ -216,17 +217,63 @@ module _ (v : Input) (w : Limits v) (g : (m : Machine) → List·Memᴰ m (v .ma
           within x (inr i) q = subst (λ (z : NamedLine). List·Memᴰ z (boardOf v)) (q ∙ sym (List·Memᴰ·eq-of-singleton i)) (at-mem (boardOf v) k l a)
 
 -- "The sheet shows exactly the machines which that theory derives."
-pub sheet-of : (v : Input) → Limits v → Within (system v) → ((m : Machine) → List·Memᴰ m (v .machines) → Good (system v) m)
-    → ((m : Machine) → List·Memᴰ m (v .machines) → Listed (system v) m) → Sheet v
-unfolding sheet boardOf
-sheet-of v w b g h =
-    record {
-      lines = sheetLines (system v) 0 (v .machines);
-      one-each = lines-length (system v) (v .machines) 0;
-      shows = λ k m l a c.
-          let z : 0 + k ≡ k = omega arith in
-          subst (λ (i : ℕ). Shows (system v) i m l) z (lines-shown (system v) (v .machines) b g h 0 k m l a c);
-      written = refl;
-      read-back = says-loaded (sheet v) (boardOf v) (good-sheet v w g);
-      fits = sheet-fits v w g;
-    }
+module _ (v : Input) (w : Limits v) (b : Within (system v)) (g : (m : Machine) → List·Memᴰ m (v .machines) → Good (system v) m) (h : (m : Machine) → List·Memᴰ m (v .machines) → Listed (system v) m) where
+  line-shows : (k : ℕ) (m : Machine) → At (v .machines) k m → Shows (system v) (v .names) k m (namedLine (v .names) (sheetLine (system v) k m))
+  unfolding sheetLine
+  line-shows k m a =
+      record {
+        number = refl;
+        count = refl;
+        start = in-place (system v) m (g m i) (v .initial) (b .initial);
+        moves = λ n q r. (to n q r, from n q r);
+        rising = rises;
+      }
+    where
+      i : List·Memᴰ m (v .machines)
+      i = at-mem (v .machines) k m a
+
+      xs : List EventMove
+      xs = movesBelow (system v) m (length (v .names))
+
+      to : (n : Name) (q r : ℕ) → List·Memᴰ (record { event = n; pre = q; post = r }) (map (named (v .names)) xs) → (e : ℕ) × At (v .names) e n × Arc (system v) m q e r
+      to n q r j =
+          let (y, l, z) = map-mem (named (v .names)) xs (record { event = n; pre = q; post = r }) j in (
+            y .event,
+            subst (At (v .names) (y .event)) (sym (ap (λ (x : NamedMove). x .event) z)) (at-getD (v .names) (y .event) [] (in-moves (system v) m (length (v .names)) y l .low)),
+            subst₂ (λ (c d : ℕ). Arc (system v) m c (y .event) d) (sym (ap (λ (x : NamedMove). x .pre) z)) (sym (ap (λ (x : NamedMove). x .post) z))
+                (moves-iff (system v) m b (g m i) (h m i) (y .event) (y .pre) (y .post) .0 l),
+          )
+
+      from : (n : Name) (q r : ℕ) → (e : ℕ) × At (v .names) e n × Arc (system v) m q e r → List·Memᴰ (record { event = n; pre = q; post = r }) (map (named (v .names)) xs)
+      from n q r (e, c, f) =
+          subst (λ (z : Name). List·Memᴰ (record { event = z; pre = q; post = r }) (map (named (v .names)) xs)) (at-value (v .names) e n [] c)
+          (mem-map (named (v .names)) xs (record { event = e; pre = q; post = r }) (moves-iff (system v) m b (g m i) (h m i) e q r .1 f))
+
+      -- the number of a move's event
+      numbered : (c d : ℕ) (x : NamedMove) → At (map (named (v .names)) xs) c x → At (v .names) d (x .event) → (y : EventMove) × At xs c y × (d ≡ y .event)
+      numbered c d x f e =
+          let (y, l, z) = at-map (named (v .names)) xs c x f in (
+            y,
+            l,
+            names-once v w g d (y .event) (x .event) (getD (v .names) (y .event) []) e
+                (at-getD (v .names) (y .event) [] (in-moves (system v) m (length (v .names)) y (at-mem xs c y l) .low))
+                (subst (OneEvent (x .event)) (ap (λ (x : NamedMove). x .event) z) (one-refl (x .event))),
+          )
+
+      rises : (c j d e : ℕ) (x y : NamedMove) → c < j → At (map (named (v .names)) xs) c x → At (map (named (v .names)) xs) j y → At (v .names) d (x .event) → At (v .names) e (y .event) → d < e
+      rises c j d e x y l p q n o =
+          let s = numbered c d x p n in
+          let t = numbered j e y q o in
+          omega (arith, s .2, t .2, rising (system v) m (length (v .names)) c j (s .0) (t .0) l (s .1) (t .1))
+
+  pub sheet-of : Sheet v
+  sheet-of =
+      record {
+        board = boardOf v;
+        one-each = board-length v;
+        shows = λ k m l a c.
+            let x = line-at v w g k l c in
+            subst (Shows (system v) (v .names) k m)
+            (ap (λ (z : Machine). namedLine (v .names) (sheetLine (system v) k z)) (at-same (v .machines) k m (x .machine) a (x .numbered)) ∙ sym (x .is)) (line-shows k m a);
+        says = good-sheet v w g;
+      }

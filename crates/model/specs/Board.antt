@@ -1,5 +1,5 @@
 -- Boards load their own sheet: what is read, refusal 15, the machines read and written again, and the run from the sheet alone. Document 02, slip 1.
--- Believed: nothing. Held by demand1: the reader and 15 (`loading`), writing again (`rewriting`), 14 (`board-running`) and what the run answers (`board-telling`); for
+-- Believed: nothing. Held by demand1: the reader and 15 (`loading`), writing again (`rewriting`), 14 (`board-running`); by demand2 what the run answers (`board-telling`); for
 -- the sheet of a text by demand3 (`boards`).
 use Prim.Native.Nat.{ℕ, zero, suc, _+_}
 use mathlib.Core.Bool.{Bool, not, cond, _&&_}
@@ -18,7 +18,7 @@ use Rattle.model.specs.Services.{Lent, lend, RunAnswer, ranAnswer}
 
 -- ---- a machine's line after those of the machines before it
 
--- "starts and move ends are below the count of places, the ends of a move differ"
+-- of a machine with n places: "move ends are below the count of places, the ends of a move differ"
 unfoldable pub isGoodMove : ℕ → NamedMove → Bool
 isGoodMove n x = ltb (x .pre) n && (ltb (x .post) n && not (eqb (x .pre) (x .post)))
 
@@ -34,7 +34,7 @@ addNames ns (x ∷ xs) = addNames (addName ns (x .event)) xs
 unfoldable pub namesOn : Board → List Name
 namesOn b = addNames [] (flatMap (λ (l : NamedLine). l .moves) b)
 
--- "machine numbers rise by one from 0", "a machine names an event once", "At most 64 names occur"
+-- "machine numbers rise by one from 0", 1 to 64 places, "starts … are below the count of places", its moves, "a machine names an event once", "At most 64 names occur"
 unfoldable pub isGoodLine : Board → NamedLine → Bool
 isGoodLine before l =
     eqb (l .number) (length before)

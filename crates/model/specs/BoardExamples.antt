@@ -1,11 +1,13 @@
--- Examples of sheets that are read and run, by computation (`boards`). Document 02, slip 1.
+-- Examples of sheets that are read and run. Document 02, slip 1.
+-- Held by computing: `boards`.
 use Prim.Native.Nat.{ℕ, suc}
 use Prim.Native.String.{String}
 use mathlib.Core.Path.{_≡_, refl}
+use mathlib.Core.Bool.{false}
 use mathlib.Core.List.{List, [], _∷_, _++_, flatMap}
 use lib.ListN.{length, replicate}
-use Rattle.model.specs.Lists.{exists, every, first, index, isSome, isEmpty}
-use Rattle.model.specs.Refusal.{refuse, refused, passed}
+use Rattle.model.specs.Lists.{numbers, exists, every, first, index, isSome, isEmpty}
+use Rattle.model.specs.Refusal.{refuse, refused, passed, refusalOf}
 use Rattle.model.specs.Product.{moveFrom, both, oneMore, inAlphabet, effective, fire, fireAll, productStep, blocker, runFrom}
 use Rattle.model.specs.Bytes.{bytes, isDigit, isLetter, isNameByte, isFigure, isName, digits}
 use Rattle.model.specs.Text.{distinct}
@@ -28,8 +30,14 @@ Rewrites s = rewrite (bytes s) (replicate (suc (length (bytes s))) 7) ≡ record
 unfoldable pub RunsNames : String → Outcome → List ℕ → Type 0
 RunsNames t o qs = boardRun (bytes ySheet) (bytes t) ≡ record { outcome = o; places = qs }
 
+-- a machine with a move of each of so many names, a0, a1 and so on, and one with a move of this name
+unfoldable pub withNames : ℕ → String → List ℕ
+withNames n name =
+    bytes "(accepted 2)\n(machine 0 (places 2) (start 0)"
+    ++ (flatMap (λ i. bytes " (move a" ++ (digits i ++ bytes " 0 1)")) (numbers n) ++ (bytes ")\n(machine 1 (places 2) (start 0) (move " ++ (bytes name ++ bytes " 0 1))\n")))
+
 pub record Boards : Type 0 where
-  pub own : Rewrites "(accepted 2)\n(machine 0 (places 2) (start 0) (move ready 0 1) (move home 1 0))\n(machine 1 (places 2) (start 0) (move brake 0 1) (move home 1 0))\n"
+  pub own : Rewrites ySheet
   pub empty : Refuses15 "" 1
   pub no-machines : Refuses15 "(accepted 0)\n" 1
   pub seventeen : Refuses15 "(accepted 17)\n" 1
@@ -50,17 +58,29 @@ pub record Boards : Type 0 where
   pub leading-zero : Refuses15 "(accepted 1)\n(machine 0 (places 02) (start 0))\n" 2
   pub two-spaces : Refuses15 "(accepted 1)\n(machine 0 (places 2)  (start 0))\n" 2
   pub net : Refuses15 "(accepted 1)\n(net 0 (marked 0))\n" 2
+  pub sixteen : Refuses15 "(accepted 16)\n" 2
+  pub long-name : Refuses15 "(accepted 1)\n(machine 0 (places 2) (start 0) (move abcdefghijklmnopq 0 1))\n" 2
+  pub names-64 : isSome (refusalOf (readSheet (withNames 64 "a63"))) ≡ false
+  pub names-65 : readSheet (withNames 64 "a64") ≡ refused (refuse 15 3 0)
+  pub too-long : readSheet (replicate 32769 40) ≡ refused (refuse 15 0 0)
+  pub longest : readSheet (replicate 32768 40) ≡ refused (refuse 15 1 0)
+  pub short : rewrite (bytes "(accepted 1)\n(machine 0 (places 1) (start 0))\n") (7 ∷ 7 ∷ []) ≡ record { answer = refused (refuse 13 46 0); left = 7 ∷ 7 ∷ [] }
   pub all : RunsNames "ready\nbrake\nhome\nhome\n" (blocked 3 0) (replicate 16 0)
   pub no-names : RunsNames "" whole (replicate 16 0)
   pub two : RunsNames "brake\nready\n" whole (1 ∷ 1 ∷ replicate 14 0)
   pub again : RunsNames "ready\nready\n" (blocked 1 0) (1 ∷ replicate 15 0)
+  pub by-machine-1 : RunsNames "ready\nhome\n" (blocked 1 1) (1 ∷ replicate 15 0)
+  pub beginning : RunsNames "ready\nbra\n" (refusedBy (refuse 14 1 0)) (replicate 16 0)
+  pub first-unended : RunsNames "bra" (refusedBy (refuse 14 0 0)) (replicate 16 0)
+  pub lone-end : RunsNames "\n" (refusedBy (refuse 14 0 0)) (replicate 16 0)
+  pub unknown-then-unended : RunsNames "ready\nnobody\nbra" (refusedBy (refuse 14 1 0)) (replicate 16 0)
   pub unknown : RunsNames "ready\nbrake\nhomes\n" (refusedBy (refuse 14 2 0)) (replicate 16 0)
   pub empty-name : RunsNames "ready\n\n" (refusedBy (refuse 14 1 0)) (replicate 16 0)
   pub not-ended-name : RunsNames "ready\nbrake" (refusedBy (refuse 14 1 0)) (replicate 16 0)
   pub unknown-before-not-ended : RunsNames "x\nbrake" (refusedBy (refuse 14 0 0)) (replicate 16 0)
 
 pub boards : Boards
-unfolding Refuses15 Rewrites RunsNames exists every first index isSome isEmpty flatMap moveFrom both oneMore inAlphabet effective fire fireAll productStep blocker runFrom isDigit isLetter
+unfolding withNames numbers Refuses15 Rewrites RunsNames exists every first index isSome isEmpty flatMap moveFrom both oneMore inAlphabet effective fire fireAll productStep blocker runFrom isDigit isLetter
     isNameByte isFigure isName digits distinct moveBytes writtenMove writtenLine writtenCount writtenSheet countForm moveForm lineForm lend outcomeOf padded ranAnswer isGoodMove addName
     addNames namesOn isGoodLine machineThen machinesFrom countThen readSheet rewrite moveOn startPlaces splitNames runNames boardRun
 boards =
@@ -86,10 +106,22 @@ boards =
       leading-zero = refl;
       two-spaces = refl;
       net = refl;
+      sixteen = refl;
+      long-name = refl;
+      names-64 = refl;
+      names-65 = refl;
+      too-long = refl;
+      longest = refl;
+      short = refl;
       all = refl;
       no-names = refl;
       two = refl;
       again = refl;
+      by-machine-1 = refl;
+      beginning = refl;
+      first-unended = refl;
+      lone-end = refl;
+      unknown-then-unended = refl;
       unknown = refl;
       empty-name = refl;
       not-ended-name = refl;

@@ -21,8 +21,9 @@ OnLine l e = (x : NamedMove) × List·Memᴰ x (l .moves) × OneEvent e (x .even
 abbrev pub OnSheet : Board → Name → Type 0
 OnSheet b e = (l : NamedLine) × List·Memᴰ l b × OnLine l e
 
--- "starts and move ends are below the count of places, the ends of a move differ"
+-- of a machine with n places: "move ends are below the count of places, the ends of a move differ"
 pub record GoodMove (n : ℕ) (x : NamedMove) : Type 0 where
+  -- 01's form of a name
   pub name : IsName (x .event)
   pub pre : x .pre < n
   pub post : x .post < n
@@ -36,35 +37,42 @@ pub record FewNames (b : Board) : Type 0 where
 
 -- the line of the machine after these
 pub record GoodLine (before : Board) (l : NamedLine) : Type 0 where
+  -- "machine numbers rise by one from 0"
   pub number : l .number ≡ length before
+  -- 01's bounds
   pub places-least : 1 ≤ l .placeCount
   pub places-most : l .placeCount ≤ 64
+  -- "starts … are below the count of places"
   pub start : l .start < l .placeCount
   pub moves : (x : NamedMove) → List·Memᴰ x (l .moves) → GoodMove (l .placeCount) x
   -- "a machine names an event once"
   pub once : (i j : ℕ) (x y : NamedMove) → At (l .moves) i x → At (l .moves) j y → OneEvent (x .event) (y .event) → i ≡ j
   pub names : FewNames (before ++ (l ∷ []))
 
--- the sheet begins with line 1, which counts n machines, and with the lines of these, each good after those before it; then comes the rest
-pub record Opens (s : List ℕ) (n : ℕ) (b : Board) (rest : List ℕ) : Type 0 where
+-- each is good after those before it
+abbrev pub GoodLines : Board → Type 0
+GoodLines b = (k : ℕ) (l : NamedLine) → At b k l → GoodLine (take k b) l
+
+-- the sheet begins with line 1, which counts n machines, and with the lines of these, no more than it counts; then comes the rest
+pub record BeginsSheet (s : List ℕ) (n : ℕ) (b : Board) (rest : List ℕ) : Type 0 where
   pub least : 1 ≤ n
   pub most : n ≤ 16
   pub few : length b ≤ n
-  pub good : (k : ℕ) (l : NamedLine) → At b k l → GoodLine (take k b) l
+  pub good : GoodLines b
   pub bytes : s ≡ writtenCount n ++ (flatMap writtenLine b ++ rest)
 
--- row 15, with its line: the lines before it are good, the sheet does not end with them, and no good line follows them
+-- row 15, with its line: 0 is the whole sheet, 1 the count; for any other the lines before it are good, the sheet does not end with them, and no good line follows them
 pub data BadSheet (s : List ℕ) : ℕ → Type 0 where
   too-long : 32768 < length s → BadSheet s 0
-  line-1 : length s ≤ 32768 → ((n : ℕ) (rest : List ℕ) → ¬ Opens s n [] rest) → BadSheet s 1
-  line : length s ≤ 32768 → (n : ℕ) (b : Board) (rest : List ℕ) → Opens s n b rest → ¬ ((length b ≡ n) × (rest ≡ []))
-      → ((l : NamedLine) (after : List ℕ) → ¬ Opens s n (b ++ (l ∷ [])) after) → BadSheet s (length b + 2)
+  line-1 : length s ≤ 32768 → ((n : ℕ) (rest : List ℕ) → ¬ BeginsSheet s n [] rest) → BadSheet s 1
+  line : length s ≤ 32768 → (n : ℕ) (b : Board) (rest : List ℕ) → BeginsSheet s n b rest → ¬ ((length b ≡ n) × (rest ≡ []))
+      → ((l : NamedLine) (after : List ℕ) → ¬ BeginsSheet s n (b ++ (l ∷ [])) after) → BadSheet s (length b + 2)
 
 -- a good sheet, and the bytes that say it
 pub record GoodSheet (b : Board) : Type 0 where
   pub least : 1 ≤ length b
   pub most : length b ≤ 16
-  pub good : (k : ℕ) (l : NamedLine) → At b k l → GoodLine (take k b) l
+  pub good : GoodLines b
   pub size : length (writtenSheet b) ≤ 32768
 
 abbrev pub SaysSheet : List ℕ → Board → Type 0
@@ -89,6 +97,10 @@ pub record OddName (Known : Name → Type 0) (t : List ℕ) (k : ℕ) : Type 0 w
   pub rest : List ℕ
   pub list : t ≡ flatMap ended before ++ (name ++ rest)
   pub odd : ((rest ≡ []) × (¬ (name ≡ []))) ⊎ (((after : List ℕ) × (rest ≡ 10 ∷ after)) × (¬ Known name))
+
+-- the list is one of known names, each ended
+abbrev pub NamesOf : (Name → Type 0) → List ℕ → Type 0
+NamesOf Known t = (es : List Name) × ((e : Name) → List·Memᴰ e es → Known e) × (t ≡ flatMap ended es)
 
 -- ---- the machines of a sheet by their moves, to run together as Region has it
 
@@ -118,7 +130,7 @@ pub record Loads (s : List ℕ) : Type 0 where
   -- reading and writing are inverse on good sheets
   pub accepts : (b : Board) → (readSheet s ≡ passed b) ↔ SaysSheet s b
   -- "every line ended by byte 10", line 1 and one for each machine
-  pub lines : (n : ℕ) (b : Board) (rest : List ℕ) → Opens s n b rest → count (eqb 10) s ≡ suc (length b) + count (eqb 10) rest
+  pub lines : (n : ℕ) (b : Board) (rest : List ℕ) → BeginsSheet s n b rest → count (eqb 10) s ≡ suc (length b) + count (eqb 10) rest
 
 -- 15, then 14, "before any move"
 pub record BoardRefuses (s t : List ℕ) : Type 0 where

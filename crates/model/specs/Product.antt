@@ -1,6 +1,6 @@
 -- Running together: the synchronous product of machines that are known by their moves alone. Document 01, "Vocabulary" and "Services".
 -- Believed: `Ran`, of which Printed says what is printed. Held by demand2 for the machines of a text, each standing in a place: one event and a list of them
--- (`machines`), what is told of a list (`running`).
+-- (`machines`), what is told of a list (`running`); for the machines of a sheet by `board-telling`.
 use Prim.Native.Nat.{ℕ, suc}
 use mathlib.Core.Bool.{Bool, cond}
 use mathlib.Core.List.{List, [], _∷_}
