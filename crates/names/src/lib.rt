@@ -2,14 +2,14 @@
 ghost use mathlib.Core.Path.{_≡_};
 ghost use mathlib.Core.Bool.{true};
 ghost use mathlib.Core.List.{List};
-ghost use Prim.Native.Nat.{_*_, _/_, _%_, _<_, _≤_};
+ghost use Prim.Native.Nat.{_+_, _*_, _/_, _%_, _<_, _≤_};
 ghost use lib.ListN.{length};
 ghost use Rattle.model.specs.Bytes.{Name};
 ghost use Rattle.model.specs.Text as Text;
 ghost use Rattle.names.specs.Held.{PackedNames, Same, Finds};
 use model::MAX_EVENTS;
 
-// How many entries a table of hints has: for a name's numbers an entry of the rows to try.
+// How many places a table of hints has: for a name's numbers an entry of the rows to try. A fresh one has 0 in each.
 pub const HINTS: usize = 1024;
 
 // The first of the names with this length and these bytes; their count if there is none. Names share beginnings, so the bytes after the eighth are compared first.
@@ -75,12 +75,20 @@ pub fn is_name_at<'a>(
     (high[k] == h) & (low[k] == l) & (len[k] == n)
 }
 
-// The place of a name's numbers in a table of hints, by a multiplicative hash.
+// The first place of a name's numbers in a table of hints, by a multiplicative hash.
 fn hint_slot(high: u64, low: u64) -> usize
     ensures { λ r. ⌜ r < 1024 ⌝ }
 {
     let mixed = std::num::wrapping_add_u64(high, low) % 4294967296;
     (mixed * 2654435761 / 4194304 % 1024) as usize
+}
+
+// The second place of numbers whose first is this.
+fn slot_after(slot: usize) -> usize
+    requires { ⌜ slot < 1024 ⌝ }
+    ensures { λ r. ⌜ r < 1024 ⌝ }
+{
+    (slot + 1) % HINTS
 }
 
 // The entry to try for a name.
@@ -91,16 +99,37 @@ pub fn hint(hints: &[u8; HINTS], high: u64, low: u64) -> usize
     (hints[slot] % 64) as usize
 }
 
-// A hint that leads from a name's numbers to entry k; one of other numbers with the same place is lost.
+// The entry to try if that is another name.
+pub fn second_hint(hints: &[u8; HINTS], high: u64, low: u64) -> usize
+    ensures { λ r. ⌜ r < 64 ⌝ }
+{
+    let slot = slot_after(hint_slot(high, low));
+    (hints[slot] % 64) as usize
+}
+
+// A place itself while its hint is 0, as in a fresh table; otherwise the next.
+fn free_slot(slot: usize, held: u8) -> usize
+    requires { ⌜ slot < 1024 ⌝ }
+    ensures { λ r. ⌜ r < 1024 ⌝ }
+{
+    if held == 0 {
+        return slot;
+    }
+    slot_after(slot)
+}
+
+// A hint that leads from a name's numbers to entry k.
 pub fn add_hint(high: u64, low: u64, k: usize, hints: &mut [u8; HINTS])
     requires { ⌜ k < 64 ⌝ }
     ensures { λ _. ⌜ length (now (hints .exit)) ≡ length (now (hints .entry)) ⌝ }
 {
     let slot = hint_slot(high, low);
-    hints[slot] = k as u8;
+    let free = free_slot(slot, hints[slot]);
+    // not 0, so that the place is held
+    hints[free] = (64 + k) as u8;
 }
 
-// A hint for each name, the last one for those with the same place.
+// A hint for each name.
 pub fn fill_hints<'a>(
     high: &'a [u64; MAX_EVENTS],
     low: &'a [u64; MAX_EVENTS],

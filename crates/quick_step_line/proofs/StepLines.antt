@@ -1,23 +1,28 @@
 -- A step line is read where its words stand one after another.
-use Prim.Native.Nat.{ℕ, _+_, _-_, _<_, _≤_}
+use Prim.Native.Nat.{ℕ, _+_, _-_, _*_, _/_, _^_, _<_, _≤_}
 use native.Mathlib.Omega.{arith}
 use mathlib.Core.Path.{_≡_, refl, ap, sym, _∙_}
 use mathlib.Core.Bool.{Bool, true, _&&_}
 use mathlib.Core.List.{List, []}
-use lib.Dec.{ltb}
+use lib.Dec.{ltb, eqb}
 use lib.ListN.{length, getD, drop, length-drop}
 use lib.Seq.{length-take-le}
-use borrow.Author.Tests.{ltb-true}
+use borrow.Author.Tests.{ltb-true, eqb-true}
 use Rattle.model.specs.Bytes.{bytes, Name, IsName}
 use Rattle.model.specs.Reading.{got, part}
 use Rattle.model.specs.Form.{step, written, stepLine}
+use Rattle.model.specs.Lists.{every}
 use Rattle.model.proofs.Laws.{both}
 use Rattle.model.proofs.Lines.{step-complete}
 use Rattle.model.proofs.Words.{Spans, then, spans-part}
+use Rattle.lexer.specs.Words.{packed}
 use Rattle.names.specs.Held.{PackedNames, Same}
 use Rattle.names.proofs.HeldNames.{entry, entry-name, entry-told}
-use Rattle.quick_step_line.specs.declared.figures.Figure.{Figure}
-use Rattle.quick_step_line.specs.Quick.{ReadsStep, FigureStands, GuessedFigure, Packs, NameSize, Framed}
+use Rattle.quick_words.specs.declared.Figure.{Figure}
+use Rattle.quick_words.specs.Guessed.{FigureStands, GuessedFigure, Packs}
+use Rattle.quick_words.proofs.Standing.{byte}
+use Rattle.quick_words.proofs.Packing as Packing
+use Rattle.quick_step_line.specs.Quick.{ReadsStep, NameSize, Framed}
 
 -- the same bytes, where the positions are written another way
 moved : {s w : List ℕ} {i j p q : ℕ} → i ≡ p → j ≡ q → Spans s i w j → Spans s p w q
@@ -30,6 +35,20 @@ unfolding written
 words {s} {at} {next = next} {a} {b} {w} o p1 p2 p3 p4 p5 p6 p7 =
     let p = then p1 (then (p2 .spans) (then p3 (then p4 (then p5 (then (p6 .spans) p7))))) in
     step-complete a w b (p2 .most) o (p6 .most) s at (drop next s) (p .bytes) ∙ ap (got (step a w b)) (sym (p .moved))
+
+-- the fixed bytes, by the code's tests of their numbers
+module _ (s : List ℕ) (each : (i : ℕ) → getD s i 0 < 256) (at : ℕ) where
+  pub opening : (v w : ℕ) → at + 8 ≤ length s → w ≡ packed (part s at 8) → v ≡ w / 2 ^ (8 * (8 - 6)) → eqb v 44476339154976 ≡ true
+      → Spans s at (bytes "(step ") (at + 6)
+  unfolding every
+  opening v w b e f t = Packing.opening s each at v w (bytes "(step ") tt (omega arith) b e f (eqb-true v 44476339154976 t)
+
+  pub closing : at + 2 ≤ length s → {w : ℕ} → w ≡ getD s at 0 * 256 + getD s (at + 1) 0 → eqb w 10506 ≡ true
+      → Spans s at (bytes ")\n") (at + 2)
+  closing h {w} e t =
+      let q = eqb-true w 10506 t in
+      let k = each (at + 1) in
+      then (byte s at (at + 1) at refl refl (omega arith) (omega arith)) (byte s (at + 1) (at + 2) (at + 1) refl (omega arith) (omega arith) (omega arith))
 
 -- the code's tests of the bytes around the words
 pub framed : (s : List ℕ) (at from to end : ℕ) → 1 ≤ from → 1 ≤ end → (o p q r : Bool) → (o ≡ true → Spans s at (bytes "(step ") (at + 6))

@@ -1,16 +1,13 @@
--- What is verified of a step line and of its words.
+-- What is verified of a step line.
 use Prim.Native.Nat.{ℕ, _+_, _-_, _<_, _≤_}
 use mathlib.Core.Path.{_≡_}
-use mathlib.Core.Bool.{true}
-use mathlib.Core.List.{List, [], List·Memᴰ}
+use mathlib.Core.List.{List, []}
 use lib.ListN.{getD}
-use Rattle.model.specs.Bytes.{bytes, isDigit, digits, Name}
-use Rattle.model.specs.Reading.{got, part}
+use Rattle.model.specs.Bytes.{bytes, Name}
+use Rattle.model.specs.Reading.{got}
 use Rattle.model.specs.Form.{step, stepLine}
 use Rattle.model.proofs.Words.{Spans}
-use Rattle.lexer.specs.Words as Words
 use Rattle.names.specs.Held.{PackedNames}
-use Rattle.quick_step_line.specs.declared.figures.Figure.{Figure}
 use Rattle.quick_step_line.specs.declared.QuickStep.{QuickStep}
 use Rattle.quick_step_line.specs.declared.QuickStep.the-variants.{Unknown, Found}
 
@@ -25,30 +22,6 @@ pub record ReadsStep (s : List ℕ) (at n count : ℕ) (lens highs lows : List �
 unfoldable pub ReadsQuickly : List ℕ → ℕ → ℕ → ℕ → List ℕ → List ℕ → List ℕ → QuickStep → Type 0
 ReadsQuickly s at n count lens highs lows Unknown = Unit {0}
 ReadsQuickly s at n count lens highs lows (Found a k b next) = ReadsStep s at n count lens highs lows a k b next
-
--- the figure of x stands at a position, and `next` is the position after it
-pub record FigureStands (s : List ℕ) (at x next : ℕ) : Type 0 where
-  pub most : x ≤ 999
-  pub spans : Spans s at (digits x) next
-
--- a figure by its bytes: a, and b and c if they are digits too; x, y and z are the values of one, two and three digits
-pub data SizedFigure (a b c x y z : ℕ) (f : Figure) : Type 0 where
-  one : f .size ≡ 1 → (f .found ≡ true → (isDigit a ≡ true) × (f .value ≡ x)) → SizedFigure a b c x y z f
-  two : f .size ≡ 2 → isDigit b ≡ true → (f .found ≡ true → (isDigit a ≡ true) × (f .value ≡ y) × (10 ≤ f .value)) → SizedFigure a b c x y z f
-  three : f .size ≡ 3 → isDigit b ≡ true → isDigit c ≡ true → (f .found ≡ true → (isDigit a ≡ true) × (f .value ≡ z) × (100 ≤ f .value))
-      → SizedFigure a b c x y z f
-
--- a figure that was guessed to stand at a position
-pub record GuessedFigure (s : List ℕ) (at next : ℕ) (f : Figure) : Type 0 where
-  pub least : 1 ≤ f .size
-  pub most : f .size ≤ 3
-  pub stands : f .found ≡ true → FigureStands s at (f .value) next
-
--- the `size` bytes at a position as the two numbers of a name
-pub record Packs (s : List ℕ) (at size h l : ℕ) : Type 0 where
-  pub bytes : (b : ℕ) → List·Memᴰ b (part s at size) → b < 256
-  pub high : h ≡ Words.high (part s at size)
-  pub low : l ≡ Words.low (part s at size)
 
 -- how many bytes there are from one position to another, if they are at most 16; otherwise 0
 pub record NameSize (from to size : ℕ) : Type 0 where

@@ -1,13 +1,14 @@
 // Where a step line ends, by bit tricks of which nothing is proved but that they stay in range.
-ghost use Prim.Native.Nat.{_+_, _-_, _*_, _/_, _≤_};
+ghost use Prim.Native.Nat.{_+_, _-_, _*_, _≤_};
 ghost use lib.ListN.{length};
-use super::words::little_endian;
+use quick_words::little_endian;
+use quick_words::low_zero_bytes;
 
 // How many of a word's bytes, from the lowest on, have bit 5.
 fn count_with_bit_5(word: u64) -> usize
     ensures { λ r. ⌜ r ≤ 8 ⌝ }
 {
-    (u64::trailing_zeros(!word & 0x2020_2020_2020_2020) / 8) as usize
+    low_zero_bytes(!word & 0x2020_2020_2020_2020)
 }
 
 // x where the bit is 1, otherwise 0.

@@ -5,24 +5,21 @@ ghost use Prim.Native.Nat.{_+_, _-_, _<_, _≤_};
 ghost use lib.ListN.{length};
 ghost use Rattle.model.specs.Bytes.{bytes};
 ghost use Rattle.model.proofs.Words.{Spans};
-ghost use Rattle.quick_step_line.specs.Quick.{ReadsQuickly, Framed};
-use figures::figure_at;
-use figures::figure_before;
+ghost use Rattle.quick_step_line.specs.Quick.{ReadsQuickly, NameSize, Framed};
 use guess::guess_end;
 use model::MAX_EVENTS;
-use name_bytes::name_size;
-use name_bytes::pack_name;
 use names::HINTS;
 use names::hint;
 use names::is_name_at;
-use words::big_endian;
-use words::first_bytes;
-use words::pack_two;
+use quick_words::big_endian;
+use quick_words::figure_at;
+use quick_words::figure_before;
+use quick_words::first_bytes;
+use quick_words::is_byte;
+use quick_words::pack_name;
+use quick_words::pack_two;
 
-mod figures; // a figure from its first or its last byte
 mod guess; // where the line ends, by bit tricks
-mod name_bytes; // the bytes of a name as its numbers
-mod words; // eight bytes of the text as one number
 
 // A step line, verified; or nothing is known of it.
 pub enum QuickStep {
@@ -33,13 +30,6 @@ pub enum QuickStep {
         target: usize,
         next: usize,
     },
-}
-
-fn is_space(s: &[u8], at: usize) -> bool
-    requires { ⌜ at < length (now s) ⌝ }
-    ensures { λ r. ⌜ (r ≡ true → Spans (now (s .entry)) at (bytes " ") (at + 1)) ⌝ }
-{
-    s[at] == b' '
 }
 
 fn is_end(s: &[u8], at: usize) -> bool
@@ -65,7 +55,16 @@ fn is_framed(s: &[u8], at: usize, from: usize, to: usize, end: usize) -> bool
     requires { ⌜ to < length (now s) ⌝ }
     ensures { λ r. ⌜ (r ≡ true → Framed (now (s .entry)) at from to end) ⌝ }
 {
-    is_step(s, at) & is_space(s, from - 1) & is_space(s, to) & is_end(s, end - 1)
+    is_step(s, at) & is_byte(s, from - 1, b' ') & is_byte(s, to, b' ') & is_end(s, end - 1)
+}
+
+// How many bytes there are from one position to another, if they are at most 16; otherwise 0.
+fn name_size(from: usize, to: usize) -> usize
+    requires { ⌜ from + 16 < 18446744073709551616 ⌝ }
+    ensures { λ r. ⌜ NameSize from to r ⌝ }
+{
+    let size = std::num::wrapping_sub_usize(to, from);
+    if size <= 16 { size } else { 0 }
 }
 
 // The step line at a position with 40 bytes from there on, since words are read past the end of a line.

@@ -1,7 +1,7 @@
 -- `quick_step_line::is_end` meets its contract: the number of two bytes tells them.
 use borrow.Author.Needs.{needs}
 use denote.Ref.{now}
-use Rattle.quick_step_line.proofs.Standing.{closing}
+use Rattle.quick_step_line.proofs.StepLines.{closing}
 use Rattle.quick_step_line.proofs.is_end.Statement.{statement}
 use Rattle.quick_step_line.proofs.is_end.Tie as tie
 
@@ -20,7 +20,7 @@ pack-two-requires c κs = search needs
 returns : tie.Need-returns
 returns c =
     let d = c .before .before .before .before in
-    closing (now (d .args .s)) (d .args .at) (λ i. c .before .before .before .shared-slice-known .given i .fits) (d .pre) (c .pack-two .ensures)
+    closing (now (d .args .s)) (λ i. c .before .before .before .shared-slice-known .given i .fits) (d .args .at) (d .pre) (c .pack-two .ensures)
 
 pub is-end-spec : {M : Type 1} → statement M
 is-end-spec =

@@ -8,14 +8,14 @@ use Rattle.quick_step_line.proofs.is_framed.Tie as tie
 is-step-requires : tie.Need-is-step-requires
 is-step-requires c κs = search needs
 
-sub-is-space : tie.Need-sub-is-space
-sub-is-space c = search needs
+sub-is-byte : tie.Need-sub-is-byte
+sub-is-byte c = search needs
 
-is-space-requires : tie.Need-is-space-requires
-is-space-requires c κs = search needs
+is-byte-requires : tie.Need-is-byte-requires
+is-byte-requires c κs = search needs
 
-is-space-requires-2 : tie.Need-is-space-requires-2
-is-space-requires-2 c κs = search needs
+is-byte-requires-2 : tie.Need-is-byte-requires-2
+is-byte-requires-2 c κs = search needs
 
 sub-is-end : tie.Need-sub-is-end
 sub-is-end c = search needs
@@ -28,16 +28,16 @@ returns c =
     let d = c .before .before .before .before .before in
     let a = d .args in
     framed (now (a .s)) (a .at) (a .from) (a .to) (a .end) (d .pre .1 .0 .0) (d .pre .1 .1 .0 .0) _ _ _ _ (c .before .before .before .is-step .ensures)
-    (c .before .before .is-space .ensures) (c .before .is-space2 .ensures) (c .is-end .ensures)
+    (c .before .before .is-byte .ensures) (c .before .is-byte2 .ensures) (c .is-end .ensures)
 
 pub is-framed-spec : {M : Type 1} → statement M
 is-framed-spec =
     tie.close
     (tie.spec
     is-step-requires
-    sub-is-space
-    is-space-requires
-    is-space-requires-2
+    sub-is-byte
+    is-byte-requires
+    is-byte-requires-2
     sub-is-end
     is-end-requires
     returns)

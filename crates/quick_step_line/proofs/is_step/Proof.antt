@@ -1,7 +1,7 @@
 -- `quick_step_line::is_step` meets its contract: the number of six bytes tells them.
 use borrow.Author.Needs.{needs}
 use denote.Ref.{now}
-use Rattle.quick_step_line.proofs.words.Packing.{opening}
+use Rattle.quick_step_line.proofs.StepLines.{opening}
 use Rattle.quick_step_line.proofs.is_step.Statement.{statement}
 use Rattle.quick_step_line.proofs.is_step.Tie as tie
 

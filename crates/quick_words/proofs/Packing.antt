@@ -19,7 +19,7 @@ use Rattle.model.proofs.Laws.{order, every-elim}
 use Rattle.model.proofs.Words.{Spans, spans-part}
 use Rattle.lexer.specs.Words.{packedFrom, packed}
 use Rattle.lexer.proofs.Telling.{EachByte, front, back, told}
-use Rattle.quick_step_line.specs.Quick.{Packs}
+use Rattle.quick_words.specs.Guessed.{Packs}
 
 -- 256 to the power of a number
 abbrev scale : ℕ → ℕ
@@ -111,11 +111,11 @@ module _ (s : List ℕ) where
         (rw (drop-of-length-le (part s at (length w)) {i = 8} (omega arith), drop-of-length-le w {i = 8} l) refl) in
         rw q at (spans-part s at (length w) (at + length w) refl d)
 
-    pub opening : (at v w : ℕ) → at + 8 ≤ length s → w ≡ packed (part s at 8) → v ≡ w / 2 ^ (8 * (8 - 6)) → eqb v 44476339154976 ≡ true
-        → Spans s at (bytes "(step ") (at + 6)
-    unfolding every
-    opening at v w b e f t =
-        told-word at (bytes "(step ") tt (omega arith) (omega arith) (sym (word at 6 b (omega arith)) ∙ ap (λ (x : ℕ). x / 2 ^ 16) (sym e) ∙ sym f ∙ eqb-true v 44476339154976 t)
+    -- the same by the number of the first bytes of a word of eight
+    pub opening : (at v x : ℕ) (w : List ℕ) → T (every (λ b. ltb b 256) w) → length w ≤ 8 → at + 8 ≤ length s → x ≡ packed (part s at 8)
+        → v ≡ x / 2 ^ (8 * (8 - length w)) → v ≡ packed w → Spans s at w (at + length w)
+    opening at v x w t l b e f g =
+        told-word at w t l (omega arith) (sym (word at (length w) b l) ∙ ap (λ (y : ℕ). y / 2 ^ (8 * (8 - length w))) (sym e) ∙ sym f ∙ g)
 
     -- a name's first eight bytes, and the others
     module _ (at size : ℕ) (b : at + 16 ≤ length s) (m : size ≤ 16) where

@@ -1,22 +1,25 @@
--- `quick_step_line::figure_at` meets its contract: the bytes stand in the order in which they are read.
+-- `quick_words::figure_before` meets its contract: the bytes stand from the last on.
 use borrow.Author.Needs.{needs}
 use denote.Ref.{now}
 use mathlib.Core.Path.{refl}
-use Rattle.quick_step_line.proofs.Standing.{forwards}
-use Rattle.quick_step_line.proofs.figures.figure_at.Statement.{statement}
-use Rattle.quick_step_line.proofs.figures.figure_at.Tie as tie
+use Rattle.quick_words.proofs.Standing.{backwards}
+use Rattle.quick_words.proofs.figure_before.Statement.{statement}
+use Rattle.quick_words.proofs.figure_before.Tie as tie
+
+sub-a : tie.Need-sub-a
+sub-a c = search needs
 
 shared-slice-read-a : tie.Need-shared-slice-read-a
 shared-slice-read-a c = search needs
 
-add-b : tie.Need-add-b
-add-b c = search needs
+sub-b : tie.Need-sub-b
+sub-b c = search needs
 
 shared-slice-read-b : tie.Need-shared-slice-read-b
 shared-slice-read-b c = search needs
 
-add-c : tie.Need-add-c
-add-c c = search needs
+sub-c : tie.Need-sub-c
+sub-c c = search needs
 
 shared-slice-read-c : tie.Need-shared-slice-read-c
 shared-slice-read-c c = search needs
@@ -24,20 +27,20 @@ shared-slice-read-c c = search needs
 digit-value-requires : tie.Need-digit-value-requires
 digit-value-requires c κs = search needs
 
-mul-y : tie.Need-mul-y
-mul-y c = search needs
-
 digit-value-requires-2 : tie.Need-digit-value-requires-2
 digit-value-requires-2 c κs = search needs
+
+mul-y : tie.Need-mul-y
+mul-y c = search needs
 
 add-y : tie.Need-add-y
 add-y c = search needs
 
-mul-z : tie.Need-mul-z
-mul-z c = search needs
-
 digit-value-requires-3 : tie.Need-digit-value-requires-3
 digit-value-requires-3 c κs = search needs
+
+mul-z : tie.Need-mul-z
+mul-z c = search needs
 
 add-z : tie.Need-add-z
 add-z c = search needs
@@ -48,23 +51,24 @@ sized-figure-requires c κs = search needs
 returns : tie.Need-returns
 returns c =
     let d = c .before .before .before .before .before .before .before .before in
-    forwards _ _ _ _ _ _ _ (now (d .args .s)) (d .args .at) (d .pre) refl refl refl (c .before .before .before .digit-value .ensures) (cc) (cc) (c .sized-figure .ensures)
+    backwards _ _ _ _ _ _ _ (now (d .args .s)) (d .args .end) (d .pre .0) (d .pre .1) refl refl refl (c .before .before .before .digit-value .ensures) (cc) (cc) (c .sized-figure .ensures)
 
-pub figure-at-spec : {M : Type 1} → statement M
-figure-at-spec =
+pub figure-before-spec : {M : Type 1} → statement M
+figure-before-spec =
     tie.close
     (tie.spec
+    sub-a
     shared-slice-read-a
-    add-b
+    sub-b
     shared-slice-read-b
-    add-c
+    sub-c
     shared-slice-read-c
     digit-value-requires
-    mul-y
     digit-value-requires-2
+    mul-y
     add-y
-    mul-z
     digit-value-requires-3
+    mul-z
     add-z
     sized-figure-requires
     returns)

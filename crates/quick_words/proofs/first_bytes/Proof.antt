@@ -1,11 +1,11 @@
--- `quick_step_line::first_bytes` meets its contract: two shifts are one by their sum.
+-- `quick_words::first_bytes` meets its contract: two shifts are one by their sum.
 use Prim.Native.Nat.{ℕ, _+_, _-_, _*_, _/_, _^_}
 use native.Mathlib.Omega.{arith}
 use mathlib.Core.Path.{_≡_, ap, _∙_}
 use borrow.Author.Needs.{needs}
 use lib.Pow.{shr-shr}
-use Rattle.quick_step_line.proofs.words.first_bytes.Statement.{statement}
-use Rattle.quick_step_line.proofs.words.first_bytes.Tie as tie
+use Rattle.quick_words.proofs.first_bytes.Statement.{statement}
+use Rattle.quick_words.proofs.first_bytes.Tie as tie
 
 mul-half : tie.Need-mul-half
 mul-half c = search needs

@@ -1,8 +1,8 @@
--- `quick_step_line::sized_figure` meets its contract: each size is a case of the tests.
+-- `quick_words::sized_figure` meets its contract: each size is a case of the tests.
 use borrow.Author.Needs.{needs}
-use Rattle.quick_step_line.proofs.Standing.{sized}
-use Rattle.quick_step_line.proofs.figures.sized_figure.Statement.{statement}
-use Rattle.quick_step_line.proofs.figures.sized_figure.Tie as tie
+use Rattle.quick_words.proofs.Standing.{sized}
+use Rattle.quick_words.proofs.sized_figure.Statement.{statement}
+use Rattle.quick_words.proofs.sized_figure.Tie as tie
 
 is-digit-requires : tie.Need-is-digit-requires
 is-digit-requires c κs = search needs

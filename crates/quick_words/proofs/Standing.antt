@@ -9,16 +9,20 @@ use lib.Dec.{leb, eqb}
 use lib.ListN.{length, getD}
 use lib.Seq.{drop-cons}
 use borrow.Author.Tests.{leb-true, eqb-true}
-use Rattle.model.specs.Bytes.{bytes, isDigit}
+use Rattle.model.specs.Bytes.{isDigit}
 use Rattle.model.proofs.Laws.{both}
 use Rattle.model.proofs.Words.{Spans, then, digits-one, digits-two, digits-three}
-use Rattle.quick_step_line.specs.declared.figures.Figure.{Figure}
-use Rattle.quick_step_line.specs.Quick.{FigureStands, GuessedFigure, SizedFigure, one, two, three}
+use Rattle.quick_words.specs.declared.Figure.{Figure}
+use Rattle.quick_words.specs.Guessed.{FigureStands, GuessedFigure, SizedFigure, one, two, three}
 
 -- the byte at i
 pub byte : (s : List ℕ) (at next i : ℕ) {a : ℕ} → at ≡ i → i + 1 ≡ next → i < length s → a ≡ getD s i 0 → Spans s at (a ∷ []) next
 byte s at next i p q h e =
     record { bytes = rw (p, e, ← q, add-one) (drop-cons s i 0 h); moved = omega arith }
+
+-- the code's test of a byte
+pub equal : (s : List ℕ) (at b : ℕ) → at < length s → eqb (getD s at 0) b ≡ true → Spans s at (b ∷ []) (at + 1)
+equal s at b h t = byte s at (at + 1) at refl refl h (sym (eqb-true (getD s at 0) b t))
 
 -- the number that a digit writes
 record Writes (b x : ℕ) : Type 0 where
@@ -66,16 +70,17 @@ module _ (a b c x y z : ℕ) (f : Figure) where
   sized true true i j k l m = three k (sym i) (sym j) (λ t. (tested 100 m t .0, l, tested 100 m t .1))
 
   module _ (s : List ℕ) where
-    -- the bytes stand at a position, in this order
-    pub forwards : (at : ℕ) → at + 3 ≤ length s → a ≡ getD s at 0 → b ≡ getD s (at + 1) 0 → c ≡ getD s (at + 2) 0 → x ≡ a % 16 → y ≡ x * 10 + b % 16
-        → z ≡ y * 10 + c % 16 → SizedFigure a b c x y z f → GuessedFigure s at (at + f .size) f
-    forwards at h ea eb ec ex ey ez (one k g) =
+    -- the bytes stand at a position, in this order; the third if it is a digit
+    pub forwards : (at : ℕ) → at + 2 ≤ length s → a ≡ getD s at 0 → b ≡ getD s (at + 1) 0 → x ≡ a % 16 → y ≡ x * 10 + b % 16
+        → (isDigit c ≡ true → (at + 3 ≤ length s) × (c ≡ getD s (at + 2) 0) × (z ≡ y * 10 + c % 16))
+        → SizedFigure a b c x y z f → GuessedFigure s at (at + f .size) f
+    forwards at h ea eb ex ey third (one k g) =
         record {
           least = omega arith;
           most = omega arith;
           stands = λ t. stands-1 (digit a (g t .0)) (byte s at (at + f .size) at refl (omega arith) (omega arith) ea) (omega (arith, g t .1));
         }
-    forwards at h ea eb ec ex ey ez (two k db g) =
+    forwards at h ea eb ex ey third (two k db g) =
         record {
           least = omega arith;
           most = omega arith;
@@ -84,7 +89,8 @@ module _ (a b c x y z : ℕ) (f : Figure) where
               (then (byte s at (at + 1) at refl refl (omega arith) ea) (byte s (at + 1) (at + f .size) (at + 1) refl (omega arith) (omega arith) eb))
               (omega (arith, g t .1)) (g t .2);
         }
-    forwards at h ea eb ec ex ey ez (three k db dc g) =
+    forwards at h ea eb ex ey third (three k db dc g) =
+        let (hc, ec, ez) = third dc in
         record {
           least = omega arith;
           most = omega arith;
@@ -126,15 +132,3 @@ module _ (a b c x y z : ℕ) (f : Figure) where
               (byte s (end - 1) end (end - 1) refl (omega arith) (omega arith) ea)))
               (omega (arith, g t .1)) (g t .2);
         }
-
--- the fixed bytes of a step line
-module _ (s : List ℕ) (at : ℕ) where
-  pub space : at < length s → eqb (getD s at 0) 32 ≡ true → Spans s at (bytes " ") (at + 1)
-  space h t = byte s at (at + 1) at refl refl h (sym (eqb-true (getD s at 0) 32 t))
-
-  pub closing : ((i : ℕ) → getD s i 0 < 256) → at + 2 ≤ length s → {w : ℕ} → w ≡ getD s at 0 * 256 + getD s (at + 1) 0 → eqb w 10506 ≡ true
-      → Spans s at (bytes ")\n") (at + 2)
-  closing each h {w} e t =
-      let q = eqb-true w 10506 t in
-      let k = each (at + 1) in
-      then (byte s at (at + 1) at refl refl (omega arith) (omega arith)) (byte s (at + 1) (at + 2) (at + 1) refl (omega arith) (omega arith) (omega arith))

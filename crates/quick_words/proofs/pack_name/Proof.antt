@@ -1,9 +1,9 @@
--- `quick_step_line::pack_name` meets its contract: the law of `Packing` on two words.
+-- `quick_words::pack_name` meets its contract: the law of `Packing` on two words.
 use borrow.Author.Needs.{needs}
 use denote.Ref.{now}
-use Rattle.quick_step_line.proofs.words.Packing.{packs}
-use Rattle.quick_step_line.proofs.name_bytes.pack_name.Statement.{statement}
-use Rattle.quick_step_line.proofs.name_bytes.pack_name.Tie as tie
+use Rattle.quick_words.proofs.Packing.{packs}
+use Rattle.quick_words.proofs.pack_name.Statement.{statement}
+use Rattle.quick_words.proofs.pack_name.Tie as tie
 
 at-most-eight-requires : tie.Need-at-most-eight-requires
 at-most-eight-requires c κs = search needs

@@ -1,9 +1,9 @@
--- `quick_step_line::big_endian` meets its contract: the law of `Packing` on eight bytes.
+-- `quick_words::big_endian` meets its contract: the law of `Packing` on eight bytes.
 use borrow.Author.Needs.{needs}
 use denote.Ref.{now}
-use Rattle.quick_step_line.proofs.words.Packing.{eight}
-use Rattle.quick_step_line.proofs.words.big_endian.Statement.{statement}
-use Rattle.quick_step_line.proofs.words.big_endian.Tie as tie
+use Rattle.quick_words.proofs.Packing.{eight}
+use Rattle.quick_words.proofs.big_endian.Statement.{statement}
+use Rattle.quick_words.proofs.big_endian.Tie as tie
 
 shared-slice-read-pack-four : tie.Need-shared-slice-read-pack-four
 shared-slice-read-pack-four c = search needs

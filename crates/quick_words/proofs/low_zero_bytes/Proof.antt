@@ -1,9 +1,9 @@
--- `quick_step_line::count_with_bit_5` meets its contract: a word has at most 64 trailing zeros.
+-- `quick_words::low_zero_bytes` meets its contract: a word has at most 64 trailing zeros.
 use Prim.Native.Nat.{ℕ, _/_, _^_, _<_, _≤_}
 use native.Mathlib.Omega.{arith}
 use lib.Count.{trailingZeros, trailing-le}
-use Rattle.quick_step_line.proofs.guess.count_with_bit_5.Statement.{statement}
-use Rattle.quick_step_line.proofs.guess.count_with_bit_5.Tie as tie
+use Rattle.quick_words.proofs.low_zero_bytes.Statement.{statement}
+use Rattle.quick_words.proofs.low_zero_bytes.Tie as tie
 
 small : (w : ℕ) → trailingZeros 64 w / 8 < 2 ^ 64
 small w = omega (arith, trailing-le 64 w)
@@ -17,5 +17,5 @@ cast-result c = record { fits = small _ }
 returns : tie.Need-returns
 returns c = at-most-eight _
 
-pub count-with-bit-5-spec : {M : Type 1} → statement M
-count-with-bit-5-spec = tie.close (tie.spec cast-result returns)
+pub low-zero-bytes-spec : {M : Type 1} → statement M
+low-zero-bytes-spec = tie.close (tie.spec cast-result returns)

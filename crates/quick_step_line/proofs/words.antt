@@ -1,2 +1,0 @@
--- Bytes as a number, and names as two.
-pub mod Packing

@@ -1,0 +1,2 @@
+-- what is verified of a word
+pub mod Guessed
