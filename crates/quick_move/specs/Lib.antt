@@ -1,0 +1,2 @@
+-- what a move's words come to: verified, or unknown
+pub mod Quick
