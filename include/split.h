@@ -1,5 +1,6 @@
-/* The splitter's five services, proved: each answers and writes what crates/split_c/src/lib.rt
+/* The splitter's seven services, proved: each answers and writes what crates/split_c/src/lib.rt
  * promises, for any bytes. For C11 and C++11, and later; include/split.rs has the same for Rust.
+ * include/board.h has the last two alone, for a program that has sheets only.
  *
  * To link, on x86-64 Linux (with -Wl,--gc-sections what is not called is left out):
  *
@@ -17,20 +18,23 @@
  *     split_name     8,192    22,528
  *     split_run     15,360    61,440
  *     split_thin    15,360    92,160
- *     all five      22,528    92,160
+ *     split_sheet        0         0
+ *     split_board        0         0
+ *     all seven     22,528    92,160
  *
  * Both are measured, not proved, and rounded up; tests/library/check measures again. Code is what
  * the library adds to a program that calls this service only, linked with --gc-sections, its
  * constants included. Stack is how far down a call wrote into a stack filled with a pattern, on the
- * texts of examples/ and bench/texts, whole and cut short. What a signal or an interrupt takes
- * comes on top.
+ * texts of examples/ and bench/texts and their sheets, whole and cut short. What a signal or an
+ * interrupt takes comes on top.
  *
  * What a call takes: a slice is passed as a pointer and a length. If the length is 0 nothing is
  * read or written through the pointer, and it may be null: an empty text is refused as misformed
- * (1, line 1); a list of no events runs to its end, if the text passes; an output of length 0 is
- * refused by 13 with the size needed, which is a way to ask for it (a plan without steps needs
- * none). A null pointer with another length is not allowed. What is lent for output must overlap
- * nothing else that is passed. A call keeps no state and may run in several threads at once.
+ * (1, line 1), an empty sheet as bad (15, line 1); a list of no events or names runs to its end, if
+ * the text or the sheet passes; an output of length 0 is refused by 13 with the size needed, which
+ * is a way to ask for it (a plan without steps needs none). A null pointer with another length is
+ * not allowed. What is lent for output must overlap nothing else that is passed. A call keeps no
+ * state and may run in several threads at once.
  *
  * What a call leaves: number is SPLIT_ANSWERED and the answer is in the other fields; or number is
  * another of enum split_refusal, detail and second are its two details, the other fields are 0 and
@@ -65,7 +69,8 @@ enum split_refusal {
     SPLIT_UNHELD = 11,      /* event, 0: it is on no machine */
     SPLIT_OPEN = 12,        /* event, state: the machines would run the event there, not the plan */
     SPLIT_SHORT_SHEET = 13, /* size needed, 0: what is lent for output is too short */
-    SPLIT_ODD_CALL = 14     /* position, 0: the event number there is not declared */
+    SPLIT_ODD_CALL = 14,    /* position, 0: no event is declared so, or its name is not ended */
+    SPLIT_BAD_SHEET = 15    /* line, 0: it breaks the sheet's form; 0, 0: it is over 32,768 bytes */
 };
 
 /* A step of the plan: from-state, event number, to-state. */
@@ -114,6 +119,17 @@ struct split_run_answer split_run(const uint8_t *text, size_t text_len, const ui
 
 /* Drops machines that add nothing, from the highest to the lowest. */
 struct split_set split_thin(const uint8_t *text, size_t text_len);
+
+/* Loads a sheet and writes it again, into the first bytes of out: the same bytes, if the sheet is
+ * good. 32,768 always suffice; 13 has the size needed. Refused by 13 and 15 only. */
+struct split_answer split_sheet(const uint8_t *sheet, size_t sheet_len, uint8_t *out,
+                                size_t out_len);
+
+/* Loads a sheet and runs a list of events on its machines together, by their names, each ended by
+ * byte 10. 14 has the position of the first that is on no move, or that nothing ends. Refused by 14
+ * and 15 only. */
+struct split_run_answer split_board(const uint8_t *sheet, size_t sheet_len, const uint8_t *names,
+                                    size_t names_len);
 
 #ifdef __cplusplus
 }

@@ -32,6 +32,7 @@ pub const UNHELD: usize = 11;
 pub const OPEN: usize = 12;
 pub const SHORT_SHEET: usize = 13;
 pub const ODD_CALL: usize = 14;
+pub const BAD_SHEET: usize = 15;
 
 #[repr(C)]
 #[derive(Clone, Copy, Debug, Default, PartialEq)]
@@ -101,6 +102,8 @@ unsafe extern "C" {
     pub fn split_name(text: *const u8, text_len: usize, event: usize) -> Name;
     pub fn split_run(text: *const u8, text_len: usize, events: *const u8, events_len: usize) -> Run;
     pub fn split_thin(text: *const u8, text_len: usize) -> Set;
+    pub fn split_sheet(sheet: *const u8, sheet_len: usize, out: *mut u8, out_len: usize) -> Answer;
+    pub fn split_board(sheet: *const u8, sheet_len: usize, names: *const u8, names_len: usize) -> Run;
 }
 
 pub fn check(text: &[u8], out: &mut [u8]) -> Answer {
@@ -121,4 +124,13 @@ pub fn run(text: &[u8], events: &[u8]) -> Run {
 
 pub fn thin(text: &[u8]) -> Set {
     unsafe { split_thin(text.as_ptr(), text.len()) }
+}
+
+pub fn sheet(sheet: &[u8], out: &mut [u8]) -> Answer {
+    unsafe { split_sheet(sheet.as_ptr(), sheet.len(), out.as_mut_ptr(), out.len()) }
+}
+
+/// Each name is ended by byte 10.
+pub fn board(sheet: &[u8], names: &[u8]) -> Run {
+    unsafe { split_board(sheet.as_ptr(), sheet.len(), names.as_ptr(), names.len()) }
 }
