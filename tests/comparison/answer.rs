@@ -1,13 +1,28 @@
 //! What the independent program answers to a call, as it prints it and as the library has to tell it.
 use crate::call::Call;
 use crate::split::Step;
-
 use crate::RULES;
+use reference::{Ran, Refusal};
+
+/// As the independent program prints a run: it takes no bytes that words can't say.
+fn unsaid(list: &[u8], sheet: &[u8]) -> Vec<u8> {
+    let places = |all: &[usize]| all.iter().map(|place| format!(" {place}")).collect::<String>();
+    let printed = match reference::board_run(RULES, sheet, list) {
+        Ok((Ran::Whole, all)) => format!("(whole (places{}))\n", places(&all)),
+        Ok((Ran::Blocked(ran, machine), all)) => format!("(blocked {ran} {machine} (places{}))\n", places(&all)),
+        Err(Refusal(number, detail, second)) => format!("(refused {number} {detail} {second})\n"),
+    };
+    printed.into_bytes()
+}
 
 /// The printed answer, and no other than one known beforehand.
 pub fn expected(call: &Call, text: &[u8]) -> Vec<u8> {
-    let figures: Vec<String> = call.numbers(text).iter().map(usize::to_string).collect();
-    let answer = reference::answer(RULES, call.service(), &figures, text);
+    let figures = || call.numbers(text).iter().map(usize::to_string).collect::<Vec<_>>();
+    let answer = match call.service() {
+        "board" if call.unsaid => unsaid(&call.list, text),
+        "board" => reference::answer(RULES, "board", call.arguments(), text),
+        service => reference::answer(RULES, service, &figures(), text),
+    };
     if let Some(known) = &call.known {
         let shown = String::from_utf8_lossy;
         assert_eq!(*known, shown(&answer), "the independent program, {} on {}", call.shown(), shown(text));
@@ -53,10 +68,10 @@ impl Told {
         }
         let line = printed.strip_suffix(b"\n").expect("a line that ends");
         match call.service() {
-            "check" => Told::Sheet(printed.to_vec()),
+            "check" | "sheet" => Told::Sheet(printed.to_vec()),
             "steps" => Told::Steps(figures(line)[1..].chunks(3).map(Step::new).collect()),
             "name" => Told::Name(line.to_vec()),
-            "run" => {
+            "run" | "board" => {
                 let mut told = figures(line);
                 let blocked = line.starts_with(b"(blocked ").then(|| (told.remove(0), told.remove(0)));
                 Told::Ran(blocked, told)

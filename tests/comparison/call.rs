@@ -1,16 +1,20 @@
-//! A call as the command line has it: a service and its words, on a text.
+//! A call as the command line has it: a service and its words, on a text or a sheet.
 
-pub const SERVICES: [&str; 5] = ["check", "steps", "name", "run", "thin"];
+pub const SERVICES: [&str; 7] = ["check", "steps", "name", "run", "thin", "sheet", "board"];
 
-/// Without a service it is check. A lent size is a figure; an event is a figure or a name.
+/// Without a service it is check. A lent size is a figure; an event is a figure or a name, for a board a name.
 #[derive(Clone, PartialEq, Eq, Hash)]
 pub struct Call {
     pub words: Vec<String>,
+    /// For a board: the names as the library takes them, each ended by byte 10.
+    pub list: Vec<u8>,
+    /// Asked of the library only: no words say it, or many of a kind would take long as processes.
+    pub unsaid: bool,
     /// The answer by hand, or from how the text was made. The independent program has to give it too.
     pub known: Option<String>,
 }
 
-/// Calls on one text, which the program gets in these pieces, with a pause between them.
+/// Calls on one text, or one sheet, which the program gets in these pieces, with a pause between them.
 #[derive(Clone)]
 pub struct Task {
     pub kind: &'static str,
@@ -18,9 +22,13 @@ pub struct Task {
     pub calls: Vec<Call>,
 }
 
+fn of(words: Vec<String>) -> Call {
+    Call { words, list: Vec::new(), unsaid: false, known: None }
+}
+
 /// The words as a line has them.
 pub fn call(line: &str) -> Call {
-    Call { words: line.split_whitespace().map(str::to_string).collect(), known: None }
+    of(line.split_whitespace().map(str::to_string).collect())
 }
 
 /// The service with an argument that may be left out.
@@ -30,12 +38,22 @@ pub fn lending(service: &str, lent: Option<String>) -> Call {
 
 pub fn run(events: &[impl ToString]) -> Call {
     let words = events.iter().map(|event| event.to_string());
-    Call { words: std::iter::once("run".to_string()).chain(words).collect(), known: None }
+    of(std::iter::once("run".to_string()).chain(words).collect())
 }
 
-fn is_name(word: &str) -> bool {
+/// A board with these names, by words if words can say them.
+pub fn board(list: impl Into<Vec<u8>>) -> Call {
+    let list = list.into();
+    let names = String::from_utf8_lossy(&list);
+    let words: Vec<String> = names.split_terminator('\n').map(str::to_string).collect();
+    let unsaid = !(list.is_empty() || list.ends_with(b"\n")) || !words.iter().all(|word| is_name(word));
+    let said = if unsaid { Vec::new() } else { words };
+    Call { list, unsaid, ..of([vec!["board".to_string()], said].concat()) }
+}
+
+pub fn is_name(word: &str) -> bool {
     let inner = |b: u8| b.is_ascii_lowercase() || b.is_ascii_digit() || b == b'-';
-    word.len() <= 16 && word.starts_with(|c: char| c.is_ascii_lowercase()) && word.bytes().all(inner)
+    (1..=16).contains(&word.len()) && word.starts_with(|c: char| c.is_ascii_lowercase()) && word.bytes().all(inner)
 }
 
 /// The names of line 2; none if it is not what it should be.
@@ -54,6 +72,19 @@ pub fn names(text: &[u8]) -> Vec<String> {
 impl Call {
     pub fn giving(self, answer: &str) -> Call {
         Call { known: Some(answer.to_string()), ..self }
+    }
+
+    pub fn by_library(self) -> Call {
+        Call { unsaid: true, ..self }
+    }
+
+    /// Whatever answer is known.
+    pub fn is_same(&self, other: &Call) -> bool {
+        (&self.words, &self.list, self.unsaid) == (&other.words, &other.list, other.unsaid)
+    }
+
+    pub fn is_on_sheet(&self) -> bool {
+        ["sheet", "board"].contains(&self.service())
     }
 
     pub fn service(&self) -> &str {
@@ -75,9 +106,12 @@ impl Call {
         self.arguments().iter().map(number).collect()
     }
 
-    /// To be typed again.
+    /// To be typed again, if it can be.
     pub fn shown(&self) -> String {
-        format!("split {}", self.words.join(" "))
+        match self.unsaid {
+            true => format!("{} of {:?} by the library", self.words.join(" "), String::from_utf8_lossy(&self.list)),
+            false => format!("split {}", self.words.join(" ")),
+        }
     }
 }
 

@@ -3,7 +3,7 @@
 //!
 //!     compare PROGRAM SEED COUNT [FEWEST]     at the root of the repository; each answer comes FEWEST times or more
 use answer::Told;
-use call::Task;
+use call::{Call, Task};
 use program::Program;
 use report::Report;
 use std::sync::mpsc::{sync_channel, Receiver};
@@ -13,6 +13,9 @@ use telling::Split;
 use watchdog::Watchdog;
 
 mod answer;
+#[path = "../../include/board.rs"]
+mod board;
+mod boards;
 mod call;
 mod crowds;
 mod damage;
@@ -41,8 +44,8 @@ mod wide;
 mod words;
 mod written;
 
-/// Document 01 alone: none of the later requests is in force.
-const RULES: reference::Rules = reference::Rules(0);
+/// How many requests of document 02 are in force.
+const RULES: reference::Rules = reference::Rules(1);
 
 /// A process for each call is what takes the time, and there is a wait in each.
 const WORKERS: usize = 4;
@@ -62,25 +65,61 @@ struct Printed {
     kept: Option<Vec<usize>>,
 }
 
+/// A call, and what the independent program and the program print; nothing if the program is not asked.
+struct Asked {
+    expected: Vec<u8>,
+    told: Told,
+    stdout: Vec<u8>,
+}
+
+fn ask(task: &Task, text: &[u8], call: &Call, program: &Program, watchdog: &Watchdog, report: &Report) -> Asked {
+    let expected = answer::expected(call, text);
+    let told = Told::of(call, &expected);
+    report.call(call, &expected);
+    let mut stdout = Vec::new();
+    if !call.unsaid {
+        let done = program.call(&call.words, &task.pieces, watchdog);
+        report.program(task, call, text, &expected, &done);
+        stdout = done.stdout;
+    }
+    let _watched = watchdog.function(call.shown(), text);
+    report.library(task, text, library::faults(call, text, &told));
+    Asked { expected, told, stdout }
+}
+
+fn compare_on_sheet(task: &Task, program: &Program, watchdog: &Watchdog, report: &Report) {
+    let sheet = task.text();
+    for call in &task.calls {
+        let asked = ask(task, &sheet, call, program, watchdog, report);
+        report.telling(&boards::telling::of(&sheet, call, &asked.told));
+    }
+}
+
 fn compare(task: &Task, program: &Program, watchdog: &Watchdog, report: &Report) {
+    if task.calls[0].is_on_sheet() {
+        return compare_on_sheet(task, program, watchdog, report);
+    }
     let text = task.text();
     let (mut printed, mut split, mut class) = (Printed::default(), None, 0);
+    let (mut sheet, mut runs) = (Vec::new(), Vec::new());
     for (k, call) in task.calls.iter().enumerate() {
-        let expected = answer::expected(call, &text);
-        let told = Told::of(call, &expected);
-        let done = program.call(&call.words, &task.pieces, watchdog);
-        report.program(task, call, &text, &expected, &done);
-        let _watched = watchdog.function(call.shown(), &text);
-        report.library(task, &text, library::faults(call, &text, &told));
+        let Asked { expected, told, stdout } = ask(task, &text, call, program, watchdog, report);
         if k == 0 {
             class = answer::class(&expected);
-            printed.sheet = done.stdout.clone();
+            printed.sheet = stdout.clone();
             split = (class == 0).then(|| Split::new(&text, &expected));
+            sheet = expected.clone();
         }
         if let Some(split) = &split {
             report.telling(&split.of(&call.numbers(&text), &told));
         }
-        printed.kept = printed.kept.or_else(|| answer::kept(&done.stdout));
+        printed.kept = printed.kept.or_else(|| answer::kept(&stdout));
+        if call.service() == "run" {
+            runs.push((call.clone(), expected));
+        }
+    }
+    if class == 0 {
+        compare_on_sheet(&boards::of_text(&text, &sheet, &runs), program, watchdog, report);
     }
     if [0, 11, 12].contains(&class) && report.is_first(&text) {
         let walked = match class {
@@ -121,7 +160,10 @@ fn main() {
             let worker = thread::Builder::new().stack_size(STACK);
             worker.spawn_scoped(scope, || work(&jobs, &program, &report)).expect("a worker");
         }
-        let tasks = fixed::all().into_iter().chain(generated::Tasks::new(seed, count as usize));
+        let fixed = fixed::all().into_iter().chain(boards::fixed::all());
+        let texts = generated::Tasks::new(seed, count as usize);
+        let sheets = boards::generated::tasks(seed, count as usize / 5);
+        let tasks = fixed.chain(texts).chain(sheets);
         for job in std::iter::once(Job::Words).chain(tasks.map(Job::Calls)).take_while(|_| !report.gives_up()) {
             sender.send(job).expect("a worker");
         }

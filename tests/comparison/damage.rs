@@ -35,17 +35,8 @@ fn damaged_somewhere(dice: &mut Dice, text: &[u8]) -> Vec<u8> {
     text
 }
 
-/// A text that would be accepted, or a small one, with one thing wrong: a bit turned over, the end cut off, a byte or a
-/// line that is not what it was.
-pub fn damaged(dice: &mut Dice) -> Vec<u8> {
-    let mut text = match dice.below(5) {
-        0 => Y.to_string(),
-        1 => tiny(dice).text(),
-        2 => loose(dice).text(),
-        3 => TINY.to_string(),
-        _ => product(dice, 6, false).drawn(dice).0.text(),
-    }
-    .into_bytes();
+/// One thing wrong: a bit turned over, the end cut off, a byte or a line that is not what it was.
+pub fn spoilt(dice: &mut Dice, mut text: Vec<u8>) -> Vec<u8> {
     let at = dice.below(text.len());
     match dice.below(5) {
         0 => text[at] ^= 1 << dice.below(8),
@@ -53,4 +44,16 @@ pub fn damaged(dice: &mut Dice) -> Vec<u8> {
         _ => text = damaged_somewhere(dice, &text),
     }
     text
+}
+
+/// A text that would be accepted, or a small one, with one thing wrong.
+pub fn damaged(dice: &mut Dice) -> Vec<u8> {
+    let text = match dice.below(5) {
+        0 => Y.to_string(),
+        1 => tiny(dice).text(),
+        2 => loose(dice).text(),
+        3 => TINY.to_string(),
+        _ => product(dice, 6, false).drawn(dice).0.text(),
+    };
+    spoilt(dice, text.into_bytes())
 }

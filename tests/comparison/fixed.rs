@@ -166,7 +166,7 @@ fn joined(tasks: Vec<Task>) -> Vec<Task> {
             all.push(Task { calls, ..task });
         }
         for call in task.calls {
-            match all[place].calls.iter_mut().find(|c| c.words == call.words) {
+            match all[place].calls.iter_mut().find(|c| c.is_same(&call)) {
                 None => all[place].calls.push(call),
                 Some(same) => same.known = same.known.take().or(call.known),
             }

@@ -91,7 +91,7 @@ fn doubled() -> Vec<String> {
 }
 
 /// Every text that is one byte away, and every beginning.
-fn nearby(text: &[u8]) -> Vec<Vec<u8>> {
+pub fn nearby(text: &[u8]) -> Vec<Vec<u8>> {
     let mut texts = Vec::new();
     for at in 0..=text.len() {
         let (before, after) = text.split_at(at);

@@ -59,6 +59,14 @@ impl Among {
         let next: &[u8] = if bytes.ends_with(b"\n") { b"(machine (0))\n" } else { b"\n(machine (0))\n" };
         Among { bytes: [bytes, next].concat(), size: bytes.len() }
     }
+
+    /// A sheet, and the line of its next machine.
+    pub fn machines(sheet: &[u8]) -> Among {
+        let number = sheet.iter().filter(|b| **b == b'\n').count().saturating_sub(1);
+        let end = if sheet.ends_with(b"\n") { "" } else { "\n" };
+        let next = format!("{end}(machine {number} (places 1) (start 0))\n");
+        Among { bytes: [sheet, next.as_bytes()].concat(), size: sheet.len() }
+    }
 }
 
 impl Deref for Among {

@@ -1,8 +1,10 @@
-//! The static library, called as a C program calls it. Every field of an answer counts, and every entry that is lent.
+//! The static libraries, called as a C program calls them. Every field of an answer counts, and every entry that is lent.
 use crate::answer::Told;
+use crate::board::{self, board_run, board_sheet};
 use crate::call::{names, Call};
 use crate::lent::{lend, Among, Entry, UNSPOILT};
-use crate::split::{split_check, split_name, split_run, split_steps, split_thin, Answer, Name, Run, Set, Step};
+use crate::split::{split_board, split_check, split_name, split_run, split_sheet, split_steps, split_thin};
+use crate::split::{Answer, Name, Run, Set, Step};
 use reference::TEXT_BOUND;
 use std::fmt::Debug;
 use std::ptr;
@@ -52,12 +54,24 @@ fn rooms(call: &Call, text: &[u8], most: usize, needed: usize) -> Vec<usize> {
 }
 
 type Lending<T> = unsafe extern "C" fn(*const u8, usize, *mut T, usize) -> Answer;
+type Running = unsafe extern "C" fn(*const u8, usize, *const u8, usize) -> Run;
+
+/// The library for boards has answers of its own, with the same fields.
+unsafe extern "C" fn sheet_of_board(sheet: *const u8, size: usize, out: *mut u8, lent: usize) -> Answer {
+    let board::Answer { number, detail, second, size } = unsafe { board_sheet(sheet, size, out, lent) };
+    Answer { number, detail, second, size }
+}
+
+unsafe extern "C" fn run_of_board(sheet: *const u8, size: usize, names: *const u8, len: usize) -> Run {
+    let board::Run { number, detail, second, blocked, ran, machine, places } =
+        unsafe { board_run(sheet, size, names, len) };
+    Run { number, detail, second, blocked, ran, machine, places }
+}
 
 /// All that is to be written, if only enough is lent, or the refusal.
 type Full<T> = Result<Vec<T>, [usize; 3]>;
 
-fn filling<T: Entry>(function: Lending<T>, name: &str, text: &[u8], rooms: &[usize], full: &Full<T>) -> Vec<Fault> {
-    let among = Among::others(text);
+fn filling<T: Entry>(function: Lending<T>, name: &str, among: &Among, rooms: &[usize], full: &Full<T>) -> Vec<Fault> {
     let mut faults = Vec::new();
     for lent in rooms {
         let (refusal, filled) = match full {
@@ -67,8 +81,8 @@ fn filling<T: Entry>(function: Lending<T>, name: &str, text: &[u8], rooms: &[usi
         };
         let [number, detail, second] = refusal;
         let expected = Answer { number, detail, second, size: filled.len() };
-        for null in ways(*lent == 0 || text.is_empty()) {
-            let call = |out, size| unsafe { function(pointer(&among, *null), among.len(), out, size) };
+        for null in ways(*lent == 0 || among.is_empty()) {
+            let call = |out, size| unsafe { function(pointer(among, *null), among.len(), out, size) };
             let given = lend(*lent, *null, filled, call);
             faults.extend(compared(&format!("{name}, {lent} lent"), &(expected, UNSPOILT.to_string()), &given));
         }
@@ -76,14 +90,25 @@ fn filling<T: Entry>(function: Lending<T>, name: &str, text: &[u8], rooms: &[usi
     faults
 }
 
-fn checked(call: &Call, text: &[u8], told: &Told) -> Vec<Fault> {
-    let full = match told {
+fn a_sheet(told: &Told) -> Full<u8> {
+    match told {
         Told::Refused(refusal) => Err(*refusal),
         Told::Sheet(sheet) => Ok(sheet.clone()),
         _ => unreachable!("a sheet"),
-    };
+    }
+}
+
+fn checked(call: &Call, text: &[u8], told: &Told) -> Vec<Fault> {
+    let full = a_sheet(told);
     let rooms = rooms(call, text, TEXT_BOUND, full.as_ref().map_or(9, Vec::len));
-    filling(split_check, "split_check", text, &rooms, &full)
+    filling(split_check, "split_check", &Among::others(text), &rooms, &full)
+}
+
+fn rewritten(call: &Call, sheet: &[u8], told: &Told) -> Vec<Fault> {
+    let full = a_sheet(told);
+    let rooms = rooms(call, sheet, TEXT_BOUND, full.as_ref().map_or(9, Vec::len));
+    let of = |function, name: &str| filling(function, name, &Among::machines(sheet), &rooms, &full);
+    [of(split_sheet, "split_sheet"), of(sheet_of_board, "board_sheet")].into_iter().flatten().collect()
 }
 
 fn listed(call: &Call, text: &[u8], told: &Told) -> Vec<Fault> {
@@ -93,7 +118,7 @@ fn listed(call: &Call, text: &[u8], told: &Told) -> Vec<Fault> {
         _ => unreachable!("steps"),
     };
     let rooms = rooms(call, text, 1024, full.as_ref().map_or(9, Vec::len));
-    filling(split_steps, "split_steps", text, &rooms, &full)
+    filling(split_steps, "split_steps", &Among::others(text), &rooms, &full)
 }
 
 /// Where the name stands: each of line 2 comes after one space.
@@ -121,9 +146,7 @@ fn named(call: &Call, text: &[u8], told: &Told) -> Vec<Fault> {
     ways(text.is_empty()).iter().filter_map(fault).collect()
 }
 
-/// What no byte can say is not declared, and then 255 is not either.
-fn ran(call: &Call, text: &[u8], told: &Told) -> Vec<Fault> {
-    let events: Vec<u8> = call.numbers(text).into_iter().map(|event| u8::try_from(event).unwrap_or(255)).collect();
+fn running(function: Running, name: &str, text: &Among, list: &[u8], told: &Told) -> Vec<Fault> {
     let mut expected = Run::default();
     match told {
         Told::Refused([number, detail, second]) => {
@@ -137,10 +160,24 @@ fn ran(call: &Call, text: &[u8], told: &Told) -> Vec<Fault> {
         }
         _ => unreachable!("a run"),
     }
-    let (text, list) = (Among::others(text), Among::others(&events));
-    let run = |null: &bool| unsafe { split_run(pointer(&text, *null), text.len(), pointer(&list, *null), list.len()) };
-    let fault = |null: &bool| compared(&format!("split_run of events {events:?}"), &expected, &run(null));
+    let among = Among::others(list);
+    let run = |null: &bool| unsafe { function(pointer(text, *null), text.len(), pointer(&among, *null), among.len()) };
+    let fault = |null: &bool| compared(name, &expected, &run(null));
     ways(text.is_empty() || list.is_empty()).iter().filter_map(fault).collect()
+}
+
+/// What no byte can say is not declared, and then 255 is not either.
+fn ran(call: &Call, text: &[u8], told: &Told) -> Vec<Fault> {
+    let events: Vec<u8> = call.numbers(text).into_iter().map(|event| u8::try_from(event).unwrap_or(255)).collect();
+    running(split_run, &format!("split_run of events {events:?}"), &Among::others(text), &events, told)
+}
+
+fn boarded(call: &Call, sheet: &[u8], told: &Told) -> Vec<Fault> {
+    let names = String::from_utf8_lossy(&call.list);
+    let of = |function: Running, name: &str| {
+        running(function, &format!("{name} of {names:?}"), &Among::machines(sheet), &call.list, told)
+    };
+    [of(split_board, "split_board"), of(run_of_board, "board_run")].into_iter().flatten().collect()
 }
 
 fn thinned(text: &[u8], told: &Told) -> Vec<Fault> {
@@ -163,6 +200,8 @@ pub fn faults(call: &Call, text: &[u8], told: &Told) -> Vec<Fault> {
         "steps" => listed(call, text, told),
         "name" => named(call, text, told),
         "run" => ran(call, text, told),
+        "sheet" => rewritten(call, text, told),
+        "board" => boarded(call, text, told),
         _ => thinned(text, told),
     }
 }

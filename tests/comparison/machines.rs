@@ -53,6 +53,18 @@ impl Plan {
         plan
     }
 
+    /// The names on the moves of a sheet that is good, in the order in which they come first; no more than these.
+    pub fn of_sheet(sheet: &[u8]) -> Plan {
+        let sheet = String::from_utf8_lossy(sheet);
+        let mut plan = Plan { names: Vec::new(), next: Vec::new(), places: Vec::new() };
+        for name in sheet.split("(move ").skip(1).filter_map(|rest| rest.split(' ').next()) {
+            if !plan.names.iter().any(|known| known == name) {
+                plan.names.push(name.to_string());
+            }
+        }
+        plan
+    }
+
     fn steps(&self) -> impl Iterator<Item = (usize, usize, usize)> + '_ {
         let row = |from: usize| self.next[from].iter().enumerate().filter_map(move |(e, to)| Some((from, e, (*to)?)));
         (0..self.next.len()).flat_map(row)

@@ -1,4 +1,5 @@
 //! What was compared: how often each answer came, how far the walks went, and what differs.
+use crate::boards::telling::LABELS as BOARD_LABELS;
 use crate::call::{Call, Task, SERVICES};
 use crate::library::Fault;
 use crate::program::beside;
@@ -15,21 +16,29 @@ use std::sync::Mutex;
 const SHOWN: usize = 20;
 
 /// Which refusals each service has, in the order of `SERVICES`.
-const DUE: [&[usize]; 5] = [
+const DUE: [&[usize]; 7] = [
     &[0, 1, 2, 3, 4, 5, 6, 7, 8, 9, 10, 11, 12, 13],
     &[0, 1, 2, 3, 4, 5, 6, 7, 13],
     &[0, 1, 2, 3, 4, 5, 6, 7, 14],
     &[0, 1, 2, 3, 4, 5, 6, 7, 8, 9, 10, 11, 12, 14],
     &[0, 1, 2, 3, 4, 5, 6, 7, 8, 9, 10, 11, 12],
+    &[0, 13, 15],
+    &[0, 14, 15],
 ];
+
+fn labels() -> impl Iterator<Item = &'static str> {
+    LABELS.into_iter().chain(BOARD_LABELS)
+}
 
 #[derive(Default)]
 struct Counts {
-    calls: [[usize; 15]; 5],
+    calls: [[usize; 16]; 7],
+    /// Of these, how many were asked of the library only.
+    unsaid: usize,
     words: usize,
-    telling: [usize; LABELS.len()],
+    telling: [usize; LABELS.len() + BOARD_LABELS.len()],
     /// Texts that were walked, by the class of their check.
-    walked: [usize; 15],
+    walked: [usize; 16],
     pairs: usize,
     seen: HashSet<u64>,
     differ: usize,
@@ -85,11 +94,16 @@ impl Report {
         self.counts().hangs
     }
 
-    /// A call of the program.
-    pub fn program(&self, task: &Task, call: &Call, text: &[u8], expected: &[u8], done: &Output) {
+    pub fn call(&self, call: &Call, expected: &[u8]) {
         let mut counts = self.counts();
         let row = SERVICES.iter().position(|service| *service == call.service()).expect("a service");
         counts.calls[row][crate::answer::class(expected)] += 1;
+        counts.unsaid += usize::from(call.unsaid);
+    }
+
+    /// A call of the program.
+    pub fn program(&self, task: &Task, call: &Call, text: &[u8], expected: &[u8], done: &Output) {
+        let mut counts = self.counts();
         counts.ended(done);
         let beside = beside(done);
         if done.stdout != expected || !beside.is_empty() {
@@ -117,7 +131,7 @@ impl Report {
 
     pub fn telling(&self, labels: &[&str]) {
         let mut counts = self.counts();
-        for (count, _) in counts.telling.iter_mut().zip(LABELS).filter(|(_, label)| labels.contains(label)) {
+        for (count, _) in counts.telling.iter_mut().zip(self::labels()).filter(|(_, label)| labels.contains(label)) {
             *count += 1;
         }
     }
@@ -149,12 +163,13 @@ impl Report {
         };
         let figures = |row: &[usize]| row.iter().map(usize::to_string).collect::<Vec<_>>();
         println!("Calls by what refuses them, 0 if nothing does:");
-        row("", &[vec!["all".to_string()], (0..15).map(|class| class.to_string()).collect()].concat());
+        row("", &[vec!["all".to_string()], (0..16).map(|class| class.to_string()).collect()].concat());
         for (service, classes) in SERVICES.iter().zip(&counts.calls) {
             row(service, &[figures(&[classes.iter().sum()]), figures(classes)].concat());
         }
+        println!("{} of them by the library only, of names that no words say or of one more of a kind", counts.unsaid);
         println!("{} more, of words that are no call of a service", counts.words);
-        counts.telling.iter().zip(LABELS).for_each(|(count, label)| println!("{count:>6} {label}"));
+        counts.telling.iter().zip(labels()).for_each(|(count, label)| println!("{count:>6} {label}"));
         let [accepted, unheld, open] = [0, 11, 12].map(|class| counts.walked[class]);
         let [texts, pairs] = [accepted + unheld + open, counts.pairs].map(grouped);
         let kinds = format!("{accepted} accepted, {unheld} refused by 11, {open} by 12");
@@ -171,7 +186,7 @@ impl Report {
             let rare = due.iter().find(|class| row[**class] < fewest);
             assert!(rare.is_none(), "too rare: {service} with {}", rare.unwrap());
         }
-        let rare = counts.telling.iter().zip(LABELS).find(|(count, _)| **count < fewest);
+        let rare = counts.telling.iter().zip(labels()).find(|(count, _)| **count < fewest);
         assert!(rare.is_none(), "too rare: {}", rare.unwrap().1);
     }
 

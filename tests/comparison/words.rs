@@ -1,5 +1,6 @@
 //! The words of the command line that are no calls of a service: help, explain, and whatever is refused for its words
 //! alone, before any text counts.
+use crate::call::SERVICES;
 use crate::draft::{with, ONE_STATE, Q, Y};
 use crate::program::Program;
 use crate::report::Report;
@@ -18,22 +19,23 @@ const NO_EVENTS: &[u8] = b"-1|+1|007|00|01|1.5|0x1|1e3|9x|-|-a|Ready|rEADY|readY
 /// Too few words, too many, or not those of any service.
 const NO_CALLS: &str =
     "name|name 0 1|name ready ready|name Ready x y|run Ready Brake|check 5 6|check 300 0|check ready|steps 5 6|\
-    steps 5 5|steps ready|explain x y|thin 0|thin ready|help 1|help run|help Text|help text text|explain|explain 0|\
-    explain 15|explain 01|explain x|\
+    steps 5 5|steps ready|explain x y|thin 0|thin ready|sheet 5 6|sheet 300 0|sheet ready|board 0|board ready 0|\
+    board Ready Brake|help 1|help run|help Text|help text text|help board|explain|explain 0|\
+    explain 16|explain 01|explain x|\
     explain 1x|explain -1|explain Open|explain idle event|explain 1 x|explain open 1 2 3|explain 12 0 02|Check|checks|\
-    chec|sheet|merge 5|ready|0| check|check 0 | check 0|";
+    chec|sheets|Board|merge 5|ready|0| check|check 0 | check 0|";
 
-/// The refusals of document 01 by their word, the first of two; the first has number 1.
-const REFUSALS: [&str; 14] = [
+/// The refusals by their word, the first of two; the first has number 1.
+const REFUSALS: [&str; 15] = [
     "misformed", "oversize", "stranger", "standstill", "fork", "idle", "unreached", "doubled", "missing", "uneven",
-    "unheld", "open", "short", "odd",
+    "unheld", "open", "short", "odd", "bad",
 ];
 
-/// Accepted, refused early or late, empty, too long, and not ended: no text makes a difference.
+/// Accepted, refused early or late, empty, too long, not ended, and a sheet: no text makes a difference.
 fn texts() -> Vec<Vec<u8>> {
     let texts = [Y.to_string(), Q.to_string(), with(Y, "states", "stated"), String::new(), "x".repeat(TEXT_BOUND + 1)];
     let unended = ONE_STATE.trim_end().to_string();
-    texts.into_iter().chain([unended]).map(String::into_bytes).collect()
+    texts.into_iter().chain([unended, crate::boards::written::Y.to_string()]).map(String::into_bytes).collect()
 }
 
 fn parted(line: &str) -> Vec<OsString> {
@@ -42,16 +44,19 @@ fn parted(line: &str) -> Vec<OsString> {
 
 /// Each of what is no event in each position that takes one, or takes a figure.
 fn wrong_words() -> Vec<Vec<OsString>> {
-    let before =
-        [&["run"][..], &["run", "0"], &["run", "ready", "300"], &["name"], &["check"], &["steps"], &["explain"]];
+    let runs = [&["run"][..], &["run", "0"], &["run", "ready", "300"], &["board"], &["board", "ready"]];
+    let others = [&["name"][..], &["check"], &["steps"], &["sheet"], &["explain"]];
     let mut lists: Vec<Vec<OsString>> = NO_CALLS.split('|').map(parted).collect();
     for wrong in NO_EVENTS.split(|b| *b == b'|') {
         let word = OsStr::from_bytes(wrong);
+        let before = runs.iter().chain(&others);
         lists.extend(before.map(|words| words.iter().map(OsStr::new).chain([word]).map(OsString::from).collect()));
         lists.push(vec![OsString::from("run"), word.into(), OsString::from("1")]);
     }
     lists.extend(HUGE.map(|figure| parted(&format!("explain {figure}"))));
-    lists.extend([40, 41, 4095, 4096, 4097].map(|n| parted(&format!("run {}", "x".repeat(n)))));
+    for service in ["run", "board"] {
+        lists.extend([40, 41, 4095, 4096, 4097].map(|n| parted(&format!("{service} {}", "x".repeat(n)))));
+    }
     lists.extend(["~", "!", "\x7f"].map(|word| parted(&format!("thin {word}"))));
     lists
 }
@@ -60,23 +65,26 @@ fn is_figure(word: &[u8]) -> bool {
     word == b"0" || word.first().is_some_and(|b| *b != b'0') && word.iter().all(u8::is_ascii_digit)
 }
 
+fn is_name(word: &[u8]) -> bool {
+    std::str::from_utf8(word).is_ok_and(crate::call::is_name)
+}
+
 fn is_event(word: &[u8]) -> bool {
-    let name = |b: &u8| b.is_ascii_lowercase() || b.is_ascii_digit() || *b == b'-';
-    is_figure(word)
-        || (1..=16).contains(&word.len()) && word[0].is_ascii_lowercase() && word.iter().all(name)
+    is_figure(word) || is_name(word)
 }
 
 fn is_refusal(word: &[u8]) -> bool {
-    (1..=14).any(|n: usize| word == n.to_string().as_bytes() || word == REFUSALS[n - 1].as_bytes())
+    (1..=15).any(|n: usize| word == n.to_string().as_bytes() || word == REFUSALS[n - 1].as_bytes())
 }
 
 /// The first word that is wrong, counted from 1, or that is missing.
 fn wrong(words: &[OsString]) -> usize {
     let words: Vec<&[u8]> = words.iter().map(|word| word.as_bytes()).collect();
     let fits: &dyn Fn(usize, &[u8]) -> bool = match words[0] {
-        b"check" | b"steps" => &|k, word| k == 1 && is_figure(word),
+        b"check" | b"steps" | b"sheet" => &|k, word| k == 1 && is_figure(word),
         b"name" => &|k, word| k == 1 && is_event(word),
         b"run" => &|_, word| is_event(word),
+        b"board" => &|_, word| is_name(word),
         b"thin" => &|_, _| false,
         b"help" => &|k, word| k == 1 && word == b"text",
         b"explain" => &|k, word| if k == 1 { is_refusal(word) } else { k < 4 && is_figure(word) },
@@ -117,14 +125,13 @@ fn is_screen(done: &Output) -> bool {
 fn is_help(done: &Output) -> bool {
     let help = String::from_utf8_lossy(&done.stdout);
     let words: BTreeSet<&str> = help.split(|c: char| !c.is_ascii_alphanumeric()).collect();
-    let numbers = (1..=14).map(|n| n.to_string());
-    let named =
-        ["check", "steps", "name", "run", "thin", "help", "explain"].map(String::from).into_iter().chain(numbers);
+    let numbers = (1..=15).map(|n| n.to_string());
+    let named = SERVICES.into_iter().chain(["help", "explain"]).map(String::from).chain(numbers);
     is_screen(done) && named.into_iter().all(|word| words.contains(word.as_str()))
 }
 
 /// The first line of each explanation up to its last detail, with the details 70 and 90.
-const EXPLAINED: [&str; 14] = [
+const EXPLAINED: [&str; 15] = [
     "misformed: line 70",
     "oversize: line 70",
     "stranger: line 70",
@@ -139,6 +146,7 @@ const EXPLAINED: [&str; 14] = [
     "open: in state 90 the machines are ready for event 70",
     "short sheet: what was lent is too short for the answer, which needs size 70",
     "odd call: the event at position 70",
+    "bad sheet: line 70",
 ];
 
 /// Of the refusal with this number, with these details in place of A and B.
@@ -169,10 +177,10 @@ pub fn compare(program: &Program, watchdog: &Watchdog, report: &Report) {
     let is_told = |done: &Output| done.stdout.is_empty() && done.stderr.starts_with(too_long);
     held(&many, 0, "one line on standard error that says that the words are too long", &is_told);
     for turn in 0..texts.len() {
-        held(&parted("help"), turn, "at most 24 lines of 80 columns with every service and 1 to 14", &is_help);
+        held(&parted("help"), turn, "at most 24 lines of 80 columns with every service and 1 to 15", &is_help);
         held(&parted("help text"), turn, "at most 24 lines of 80 columns", &|done| is_screen(done));
     }
-    for number in 1..=14 {
+    for number in 1..=15 {
         for said in [number.to_string(), REFUSALS[number - 1].to_string()] {
             for details in [&[][..], &["70"], &["70", "90"]] {
                 let words = parted(&[&["explain", &said], details].concat().join(" "));

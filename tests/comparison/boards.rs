@@ -1,0 +1,91 @@
+//! Sheets as they are put together, and good ones of their own, which need not be those of any text.
+use crate::call::{board, call, names, Call, Task};
+use crate::dice::Dice;
+use crate::draft::alike;
+
+mod defects;
+pub mod fixed;
+mod forms;
+pub mod generated;
+mod lists;
+pub mod telling;
+pub mod written;
+
+#[derive(Clone)]
+pub struct Machine {
+    pub number: usize,
+    pub places: usize,
+    pub start: usize,
+    pub moves: Vec<(String, usize, usize)>,
+}
+
+/// Nothing of it need be in order.
+#[derive(Clone)]
+pub struct Sheet {
+    pub count: usize,
+    pub machines: Vec<Machine>,
+}
+
+impl Machine {
+    pub fn line(&self) -> String {
+        let Machine { number, places, start, moves } = self;
+        let moves: String = moves.iter().map(|(name, pre, post)| format!(" (move {name} {pre} {post})")).collect();
+        format!("(machine {number} (places {places}) (start {start}){moves})\n")
+    }
+}
+
+impl Sheet {
+    pub fn text(&self) -> String {
+        format!("(accepted {})\n", self.count) + &self.machines.iter().map(Machine::line).collect::<String>()
+    }
+}
+
+/// Each name with a move of its own, in any order.
+fn machine(dice: &mut Dice, number: usize, places: usize, mut names: Vec<String>) -> Machine {
+    dice.shuffle(&mut names);
+    names.truncate(if places == 1 { 0 } else { names.len() });
+    let start = dice.below(places);
+    // Moves on from where the last one ended run one after another more often than others.
+    let mut at = start;
+    let mut moved = |name: String| {
+        let pre = if dice.once_in(4) { dice.below(places) } else { at };
+        at = (pre + 1 + dice.below(places - 1)) % places;
+        (name, pre, at)
+    };
+    Machine { number, places, start, moves: names.into_iter().map(&mut moved).collect() }
+}
+
+/// Names that are alike or numbered, on one machine or on several each.
+pub fn good(dice: &mut Dice) -> Sheet {
+    let numbered = (0..64).map(|k| format!("e{k}")).collect();
+    let mut names = dice.one(&[alike(), numbered]);
+    dice.shuffle(&mut names);
+    names.truncate(dice.one(&[0, 1, 2, 3, 5, 8, 20, 64]));
+    let count = dice.one(&[1, 1, 2, 2, 3, 3, 4, 5, 9, 10, 11, 16]);
+    let machines = (0..count).map(|number| {
+        let places = dice.one(&[1, 2, 2, 2, 3, 3, 4, 9, 10, 11, 63, 64]);
+        let often = dice.one(&[1, 2, 3, count]);
+        let own = names.iter().filter(|_| dice.once_in(often)).cloned().collect();
+        machine(dice, number, places, own)
+    });
+    let machines = machines.collect();
+    Sheet { count, machines }
+}
+
+/// The sheet of an accepted text: it is written again as it is, and the lists of the text's calls run on it as on the
+/// text. Of these one goes to the program.
+pub fn of_text(text: &[u8], sheet: &[u8], runs: &[(Call, Vec<u8>)]) -> Task {
+    let names = names(text);
+    let named = |word: &String| match word.parse::<usize>() {
+        Ok(event) => names.get(event).unwrap_or(word).clone() + "\n",
+        Err(_) => word.clone() + "\n",
+    };
+    let shown = |bytes: &[u8]| String::from_utf8_lossy(bytes).into_owned();
+    let mut calls = vec![call("sheet").giving(&shown(sheet))];
+    for (run, printed) in runs {
+        let call = board(run.arguments().iter().map(named).collect::<String>()).giving(&shown(printed));
+        let is_first = calls.len() == 1;
+        calls.push(if is_first { call } else { call.by_library() });
+    }
+    Task::new("sheet of a text", sheet, calls)
+}
