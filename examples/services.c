@@ -1,10 +1,10 @@
-/* All five services of the proved library on the text on standard input, from C or C++.
+/* All seven services of the proved library on the text on standard input, from C or C++.
  * examples/again builds and runs it. */
 #include "split.h"
 #include <stdio.h>
 
 /* One byte more than a text may have, so that a longer one is refused. */
-static uint8_t text[32769], sheet[32768];
+static uint8_t text[32769], sheet[32768], again[32768];
 static struct split_step steps[1024];
 
 static int refused(size_t number, size_t detail, size_t second)
@@ -14,9 +14,8 @@ static int refused(size_t number, size_t detail, size_t second)
     return number != SPLIT_ANSWERED;
 }
 
-static void print_run(size_t len, const uint8_t *events, size_t count)
+static void print_run(struct split_run_answer r)
 {
-    struct split_run_answer r = split_run(text, len, events, count);
     if (refused(r.number, r.detail, r.second))
         return;
     if (r.blocked)
@@ -42,8 +41,8 @@ int main(void)
     }
 
     const uint8_t events[] = {0, 1, 2, 2};
-    print_run(len, events, sizeof events);
-    print_run(len, NULL, 0);
+    print_run(split_run(text, len, events, sizeof events));
+    print_run(split_run(text, len, NULL, 0));
 
     struct split_set kept = split_thin(text, len);
     printf("%zu machines are kept:", kept.size);
@@ -51,5 +50,10 @@ int main(void)
         if (kept.machines >> i & 1)
             printf(" %d", i);
     printf("\n");
+
+    struct split_answer loaded = split_sheet(sheet, checked.size, again, sizeof again);
+    printf("the sheet is loaded and written again, %zu bytes\n", loaded.size);
+    const char names[] = "ready\nbrake\n";
+    print_run(split_board(again, loaded.size, (const uint8_t *)names, sizeof names - 1));
     return 0;
 }

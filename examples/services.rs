@@ -1,12 +1,11 @@
-//! All five services of the proved library on the text on standard input, from Rust.
+//! All seven services of the proved library on the text on standard input, from Rust.
 //! examples/again builds and runs it.
 use std::io::{self, Read, Write};
 
 #[path = "../include/split.rs"]
 mod split;
 
-fn print_run(text: &[u8], events: &[u8]) {
-    let r = split::run(text, events);
+fn print_run(r: split::Run) {
     match (r.number, r.blocked) {
         (split::ANSWERED, 0) => print!("the list runs to its end;"),
         (split::ANSWERED, _) => print!("machine {} blocks after {} events;", r.machine, r.ran),
@@ -35,12 +34,17 @@ fn main() -> io::Result<()> {
         println!("{} -{name}-> {}", step.source, step.target);
     }
 
-    print_run(&text, &[0, 1, 2, 2]);
-    print_run(&text, &[]);
+    print_run(split::run(&text, &[0, 1, 2, 2]));
+    print_run(split::run(&text, &[]));
 
     let kept = split::thin(&text);
     print!("{} machines are kept:", kept.size);
     (0..16).filter(|i| kept.machines >> i & 1 == 1).for_each(|i| print!(" {i}"));
     println!();
+
+    let mut again = [0; 32_768];
+    let loaded = split::sheet(&sheet[..checked.size], &mut again);
+    println!("the sheet is loaded and written again, {} bytes", loaded.size);
+    print_run(split::board(&again[..loaded.size], b"ready\nbrake\n"));
     Ok(())
 }
