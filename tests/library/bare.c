@@ -1,45 +1,15 @@
-/* The library without an operating system's library: a program of its own start, memcpy and memset, which asks for all five
- * services and looks at each field. It ends with status 0, or with a bit for each service that answered otherwise. */
+/* The library without an operating system's library: asks for all seven services and looks at each field. It ends with
+ * status 0, or with a bit for each service that answered otherwise. */
 #include "split.h"
+#include "bare.h"
 
 static const char y[] = "(states 4)\n(events ready brake home)\n(step 0 ready 1)\n(step 0 brake 2)\n(step 1 brake 3)\n"
                         "(step 2 ready 3)\n(step 3 home 0)\n(machine (0 2) (1 3))\n(machine (0 1) (2 3))\n";
-static const char sheet[] = "(accepted 2)\n"
-                            "(machine 0 (places 2) (start 0) (move ready 0 1) (move home 1 0))\n"
-                            "(machine 1 (places 2) (start 0) (move brake 0 1) (move home 1 0))\n";
 /* Refused by a number and details that all differ, so that no two fields can be taken for each other. */
 static const char forked[] = "(states 2)\n(events a)\n(step 0 a 1)\n(step 0 a 1)\n(machine (0) (1))\n";
 
-#define TEXT(string) (const uint8_t *)(string), sizeof(string) - 1
 #define ANSWERED(answer) ((answer).number == SPLIT_ANSWERED && (answer).detail == 0 && (answer).second == 0)
 #define FORKED(answer) ((answer).number == SPLIT_FORK && (answer).detail == 4 && (answer).second == 3)
-
-void begin(void);
-
-/* Where a process starts the stack is aligned for a call, and not for a function that was called. */
-__asm__(".text\n.globl _start\n_start:\n\txor %ebp, %ebp\n\tcall begin\n\thlt\n");
-
-void *memset(void *to, int byte, size_t size)
-{
-    for (size_t i = 0; i < size; i++)
-        ((uint8_t *)to)[i] = (uint8_t)byte;
-    return to;
-}
-
-void *memcpy(void *to, const void *from, size_t size)
-{
-    for (size_t i = 0; i < size; i++)
-        ((uint8_t *)to)[i] = ((const uint8_t *)from)[i];
-    return to;
-}
-
-static int same(const void *one, const void *other, size_t size)
-{
-    for (size_t i = 0; i < size; i++)
-        if (((const uint8_t *)one)[i] != ((const uint8_t *)other)[i])
-            return 0;
-    return 1;
-}
 
 static int checks(void)
 {
@@ -89,8 +59,33 @@ static int thins(void)
     return FORKED(fork) && fork.machines == 0 && fork.size == 0 && ANSWERED(both) && both.machines == 3 && both.size == 2;
 }
 
-void begin(void)
+static int loads(void)
 {
-    int status = (checks() ? 0 : 1) | (lists() ? 0 : 2) | (names() ? 0 : 4) | (runs() ? 0 : 8) | (thins() ? 0 : 16);
-    __asm__ volatile("syscall" : : "a"(60), "D"(status) : "rcx", "r11", "memory");
+    uint8_t out[sizeof sheet] = {0};
+    struct split_answer bad = split_sheet(TEXT(y), out, sizeof out);
+    struct split_answer asked = split_sheet(TEXT(sheet), NULL, 0);
+    int kept = out[0] == 0;
+    struct split_answer written = split_sheet(TEXT(sheet), out, sizeof out);
+    return bad.number == SPLIT_BAD_SHEET && bad.detail == 1 && bad.second == 0 && bad.size == 0 && kept &&
+           asked.number == SPLIT_SHORT_SHEET && asked.detail == sizeof sheet - 1 && asked.size == 0 &&
+           ANSWERED(written) && written.size == sizeof sheet - 1 && same(out, sheet, sizeof sheet);
+}
+
+static int boards(void)
+{
+    static const uint8_t start[16] = {0}, ready[16] = {1};
+    struct split_run_answer bad = split_board(TEXT(y), TEXT("ready\n"));
+    struct split_run_answer odd = split_board(TEXT(sheet), TEXT("ready\nbrake"));
+    struct split_run_answer none = split_board(TEXT(sheet), NULL, 0);
+    struct split_run_answer two = split_board(TEXT(sheet), TEXT("ready\nhome\n"));
+    return bad.number == SPLIT_BAD_SHEET && bad.detail == 1 && bad.second == 0 && same(bad.places, start, 16) &&
+           odd.number == SPLIT_ODD_CALL && odd.detail == 1 && odd.second == 0 && same(odd.places, start, 16) &&
+           ANSWERED(none) && none.blocked == 0 && same(none.places, start, 16) &&
+           ANSWERED(two) && two.blocked == 1 && two.ran == 1 && two.machine == 1 && same(two.places, ready, 16);
+}
+
+static int failures(void)
+{
+    return (checks() ? 0 : 1) | (lists() ? 0 : 2) | (names() ? 0 : 4) | (runs() ? 0 : 8) | (thins() ? 0 : 16) |
+           (loads() ? 0 : 32) | (boards() ? 0 : 64);
 }

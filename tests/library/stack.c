@@ -1,6 +1,8 @@
-/* Prints the most stack that each service took on the texts that are named: its call runs on a stack that is filled with
- * a pattern, and what lies above the lowest byte that changed is counted, with the caller's frame and the arguments. */
+/* Prints the most stack that each service of either library took on the texts and sheets that are named: its call runs on
+ * a stack that is filled with a pattern, and what lies above the lowest byte that changed is counted, with the caller's
+ * frame and the arguments. */
 #define _XOPEN_SOURCE 700
+#include "board.h"
 #include "split.h"
 #include <stdio.h>
 #include <string.h>
@@ -8,10 +10,11 @@
 
 enum { AREA = 1 << 18, PATTERN = 0xa5 };
 
-static uint8_t area[AREA], text[32769], sheet[32768];
+static uint8_t area[AREA], text[32769], sheet[32768], loaded[32769];
+static uint8_t names[] = "................\n................\n\n";
 static struct split_step steps[1024];
 static const uint8_t events[] = {0, 0, 255};
-static size_t length;
+static size_t length, loaded_length, names_length;
 static ucontext_t outside, inside;
 
 /* Each service as far as it can come, and refused by the call's own refusal, 13 or 14. */
@@ -24,6 +27,14 @@ static void name_odd(void) { split_name(text, length, 64); }
 static void run_some(void) { split_run(text, length, events, 2); }
 static void run_odd(void) { split_run(text, length, events, 3); }
 static void thin(void) { split_thin(text, length); }
+static void sheet_lent(void) { split_sheet(loaded, loaded_length, sheet, sizeof sheet); }
+static void sheet_unlent(void) { split_sheet(loaded, loaded_length, NULL, 0); }
+static void board_some(void) { split_board(loaded, loaded_length, names, names_length); }
+static void board_odd(void) { split_board(loaded, loaded_length, names, names_length + 1); }
+static void own_sheet_lent(void) { board_sheet(loaded, loaded_length, sheet, sizeof sheet); }
+static void own_sheet_unlent(void) { board_sheet(loaded, loaded_length, NULL, 0); }
+static void own_some(void) { board_run(loaded, loaded_length, names, names_length); }
+static void own_odd(void) { board_run(loaded, loaded_length, names, names_length + 1); }
 
 static struct {
     const char *service;
@@ -32,7 +43,9 @@ static struct {
 } services[] = {
     {"split_check", {check_lent, check_unlent}, 0}, {"split_steps", {steps_lent, steps_unlent}, 0},
     {"split_name", {name_first, name_odd}, 0},      {"split_run", {run_some, run_odd}, 0},
-    {"split_thin", {thin, thin}, 0},
+    {"split_thin", {thin, thin}, 0},                {"split_sheet", {sheet_lent, sheet_unlent}, 0},
+    {"split_board", {board_some, board_odd}, 0},    {"board_sheet", {own_sheet_lent, own_sheet_unlent}, 0},
+    {"board_run", {own_some, own_odd}, 0},
 };
 
 enum { SERVICES = sizeof services / sizeof services[0] };
@@ -52,9 +65,35 @@ static size_t taken(void (*call)(void))
     return AREA - kept;
 }
 
+/* The first name on a move, twice; an empty one may follow. */
+static void take_names(void)
+{
+    static const char before[] = "(move ";
+    size_t at = 0, size = 0;
+    while (at + sizeof before < loaded_length && memcmp(loaded + at, before, sizeof before - 1) != 0)
+        at++;
+    at += sizeof before - 1;
+    while (size < 16 && at + size < loaded_length && loaded[at + size] != ' ')
+        size++;
+    for (int i = 0; i < 2; i++) {
+        memcpy(names + i * (size + 1), loaded + at, size);
+        names[i * (size + 1) + size] = '\n';
+    }
+    names_length = 2 * (size + 1);
+    names[names_length] = '\n';
+}
+
+/* The text, and its sheet if it is accepted; otherwise it is taken for a sheet itself. */
 static void measure(size_t given)
 {
     length = given;
+    struct split_answer checked = split_check(text, length, loaded, sizeof loaded);
+    loaded_length = checked.size;
+    if (checked.number != SPLIT_ANSWERED) {
+        memcpy(loaded, text, length);
+        loaded_length = length;
+    }
+    take_names();
     for (int i = 0; i < 2 * SERVICES; i++) {
         size_t now = taken(services[i / 2].calls[i % 2]);
         if (now > services[i / 2].most)
@@ -62,7 +101,8 @@ static void measure(size_t given)
     }
 }
 
-/* The text; the same refused as misformed; and with a machine less, which may be refused by 11, 12 or for want of one. */
+/* The text or sheet; the same refused as misformed; and with a machine less, which may be refused by 11, 12 or for want of
+ * one. */
 static int measure_file(const char *path)
 {
     FILE *file = fopen(path, "rb");
