@@ -2,13 +2,13 @@
 use std::hint::black_box;
 
 /// The services, by the words of the command line.
-pub const SERVICES: [&str; 5] = ["check", "steps", "name", "run", "thin"];
+pub const SERVICES: [&str; 7] = ["check", "steps", "name", "run", "thin", "sheet", "board"];
 
 /// What is lent for a sheet and for steps. Both always suffice.
 pub const SHEET: usize = 32_768;
 pub const STEPS: usize = 1024;
 
-/// A service, with what it is passed beside the text.
+/// A service, with what it is passed beside the text or the sheet.
 pub enum Service {
     /// So many of the bytes that are lent for a sheet.
     Check(usize),
@@ -16,6 +16,10 @@ pub enum Service {
     Name(usize),
     Run(Vec<u8>),
     Thin,
+    /// So many of the bytes that are lent for a sheet.
+    Sheet(usize),
+    /// Names, each ended by byte 10.
+    Board(Vec<u8>),
 }
 
 impl Service {
@@ -26,10 +30,13 @@ impl Service {
             Service::Name(_) => 2,
             Service::Run(_) => 3,
             Service::Thin => 4,
+            Service::Sheet(_) => 5,
+            Service::Board(_) => 6,
         }]
     }
 }
 
+/// On a text, or on a sheet.
 pub struct Call {
     pub text: Vec<u8>,
     pub service: Service,

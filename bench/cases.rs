@@ -1,6 +1,7 @@
-//! The texts, and the calls that are timed on them.
+//! The texts and sheets, and the calls that are timed on them.
 use crate::call::{Call, Programs, Service, Told, SHEET};
-use crate::peer;
+use crate::{peer, peer_slips};
+use std::collections::BTreeSet;
 use std::fs;
 
 /// A text of bench/texts, all of which are accepted.
@@ -54,17 +55,56 @@ fn walk(text: &[u8]) -> Vec<u8> {
     events
 }
 
-/// Every file of bench/texts, by name.
-pub fn texts() -> Vec<Text> {
+/// The files of bench/texts with this ending, by name.
+fn files(ending: &str) -> Vec<(String, Vec<u8>)> {
     let mut files: Vec<_> =
         fs::read_dir("bench/texts").expect("bench/texts").flatten().map(|file| file.path()).collect();
+    files.retain(|file| file.extension().is_some_and(|found| found == ending));
     files.sort();
-    let text = |file: &std::path::PathBuf| {
-        let bytes = fs::read(file).expect("a text");
-        let name = file.file_stem().expect("a name").to_string_lossy().into_owned();
-        Text { name, walk: walk(&bytes), bytes }
+    let name = |file: &std::path::PathBuf| file.file_stem().expect("a name").to_string_lossy().into_owned();
+    files.iter().map(|file| (name(file), fs::read(file).expect("a text"))).collect()
+}
+
+pub fn texts() -> Vec<Text> {
+    files("plan").into_iter().map(|(name, bytes)| Text { name, walk: walk(&bytes), bytes }).collect()
+}
+
+/// A good sheet, and names of events that run to their end.
+pub struct Sheet {
+    pub name: String,
+    pub bytes: Vec<u8>,
+    pub walk: Vec<u8>,
+}
+
+/// As `walk`, by name: at most 256 events, each the next that runs among the names on the sheet.
+fn walk_by_name(sheet: &[u8]) -> Vec<u8> {
+    let text = String::from_utf8_lossy(sheet);
+    let named: BTreeSet<&str> = text.split("(move ").skip(1).filter_map(|rest| rest.split(' ').next()).collect();
+    let named: Vec<&str> = named.into_iter().collect();
+    let (mut list, mut turn) = (String::new(), 0);
+    let runs = |list: &String| peer_slips::board(sheet, list.as_bytes()).ran == peer_slips::Ran::Whole;
+    for _ in 0..256 {
+        let next = (0..named.len()).map(|i| format!("{list}{}\n", named[(turn * 7 + i) % named.len()]));
+        let Some(longer) = next.into_iter().find(runs) else { break };
+        list = longer;
+        turn += 11;
+    }
+    list.into_bytes()
+}
+
+pub fn sheets() -> Vec<Sheet> {
+    files("sheet").into_iter().map(|(name, bytes)| Sheet { name, walk: walk_by_name(&bytes), bytes }).collect()
+}
+
+/// Both calls on a sheet.
+pub fn loaded(programs: &mut Programs, sheet: &Sheet) -> Vec<Case> {
+    let Sheet { name, bytes, walk } = sheet;
+    let case = |service| {
+        let case = Case::new(programs, name, bytes, service);
+        assert!(case.refusal().is_none(), "{name} is refused");
+        case
     };
-    files.iter().map(text).collect()
+    [Service::Sheet(SHEET), Service::Board(walk.clone())].map(case).into()
 }
 
 /// The number of the event that is declared last.

@@ -8,7 +8,7 @@ struct Goal {
     what: String,
     most: f64,
     /// For each service that it is about, in the order of `SERVICES`.
-    measured: [Option<f64>; 5],
+    measured: [Option<f64>; SERVICES.len()],
 }
 
 impl Goal {
@@ -25,7 +25,7 @@ fn of<'a>(cases: &'a [Case], service: &'a str) -> impl Iterator<Item = &'a Case>
     cases.iter().filter(move |case| case.call.service.word() == service)
 }
 
-/// The proved library beside the peer on one text.
+/// The proved library beside the peer on one text or sheet.
 fn to_peer(cases: &[Case], text: &str, most: f64) -> Goal {
     let measured = SERVICES.map(|service| {
         let case = of(cases, service).find(|case| case.name == text)?;
@@ -42,7 +42,7 @@ fn thin_to_check(cases: &[Case]) -> Goal {
     Goal {
         what: format!("thin to check on {text}, the worst"),
         most: 1.5,
-        measured: [None, None, None, None, Some(worst)],
+        measured: SERVICES.map(|service| (service == "thin").then_some(worst)),
     }
 }
 
@@ -51,15 +51,17 @@ fn flat(cases: &[Case], series: &str) -> Goal {
     let measured = SERVICES.map(|service| {
         let texts = of(cases, service).filter(|case| case.name.starts_with(series));
         let a_byte: Vec<f64> = texts.map(|case| median(&case.ns[PROVED]) / case.call.text.len() as f64).collect();
-        Some(a_byte.iter().copied().fold(0.0, f64::max) / a_byte.iter().copied().fold(f64::MAX, f64::min))
+        let most = a_byte.iter().copied().fold(0.0, f64::max);
+        (!a_byte.is_empty()).then(|| most / a_byte.iter().copied().fold(f64::MAX, f64::min))
     });
     Goal { what: format!("ns/byte, most to least, {series}04k to 32k"), most: 1.5, measured }
 }
 
-/// Of the accepted texts.
+/// Of the accepted texts and the good sheets.
 pub fn goals(cases: &[Case]) -> Table {
     let large = of(cases, "check").filter(|case| case.name.ends_with("-32k"));
     let mut goals: Vec<Goal> = large.map(|case| to_peer(cases, &case.name, 1.5)).collect();
+    goals.push(to_peer(cases, "cycle-31k", 1.5));
     goals.push(to_peer(cases, "a-y", 2.0));
     goals.push(thin_to_check(cases));
     goals.extend(["machines-", "steps-"].map(|series| flat(cases, series)));

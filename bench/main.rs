@@ -14,6 +14,8 @@ mod goals;
 mod others;
 #[allow(dead_code)]
 mod peer;
+#[allow(dead_code)]
+mod peer_slips;
 mod proved;
 mod refused;
 #[path = "../include/split.rs"]
@@ -56,19 +58,21 @@ fn main() {
     let [passes, form] = &words[..] else { panic!("bench PASSES text|markdown") };
     let (passes, markdown) = (passes.parse().expect("PASSES is a figure"), form == "markdown");
     let mut programs: Programs = [Box::new(Proved::new()), Box::new(Peer::new()), Box::new(Independent)];
-    let texts = cases::texts();
+    let (texts, sheets) = (cases::texts(), cases::sheets());
     let mut cases: Vec<Case> = texts.iter().flat_map(|text| cases::accepted(&mut programs, text)).collect();
-    cases.extend(refused::refused(&mut programs, &texts));
+    cases.extend(sheets.iter().flat_map(|sheet| cases::loaded(&mut programs, sheet)));
+    cases.extend(refused::refused(&mut programs, &texts, &sheets));
     timing::measure(&mut programs, &mut cases, passes);
     let (no, yes): (Vec<Case>, Vec<Case>) = cases.into_iter().partition(|case| case.refusal().is_some());
     let about = |line: &str| println!("{line}\n");
     about(&format!(
-        "Accepted texts. ns and ratio (proved to peer, within a pass) are medians over {passes} passes, independent ns over \
+        "Accepted texts and good sheets. ns and ratio (proved to peer, within a pass) are medians over {passes} passes, independent ns over \
          every tenth of them; times: how many times as long the independent program takes."
     ));
     accepted(&yes).print(markdown);
     about(
-        "Refused texts: check on both-32k (2: machines-32k), edited as late as the refusal allows; for 14 it is run.",
+        "Refused: check on both-32k (2: machines-32k), edited as late as the refusal allows; for 14 it is run, for 15 sheet \
+         on cycle-31k.",
     );
     refused(&no).print(markdown);
     about("Goals: no figure of a row is to be above `at most`.");

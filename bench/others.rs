@@ -1,11 +1,11 @@
-//! Those that the proved library is compared with: the peer, and the independent program.
+//! Those that the proved library is compared with: the peers, one on texts and one on sheets, and the independent program.
 use crate::call::{again, Call, Program, Service, Told, SHEET, STEPS};
-use crate::peer;
+use crate::{peer, peer_slips};
 use reference::Refusal;
 use std::hint::black_box;
 
-/// Document 01 alone: none of the later requests is in force.
-const RULES: reference::Rules = reference::Rules(0);
+/// How many requests of document 02 are in force.
+const RULES: reference::Rules = reference::Rules(1);
 
 /// It has no steps and no name.
 pub struct Peer {
@@ -41,6 +41,18 @@ impl Program for Peer {
                 peer::Thinned::Kept(machines, size) => Told::Kept(machines.into(), size),
                 peer::Thinned::Refused(number, detail, second) => refused(number, detail, second),
             }),
+            Service::Sheet(lent) => Some(match peer_slips::sheet(text, &mut self.sheet[..*lent]) {
+                peer_slips::Answer::Accepted(size) => Told::Sheet(self.sheet[..size].to_vec()),
+                peer_slips::Answer::Refused(number, detail, second) => refused(number, detail, second),
+            }),
+            Service::Board(names) => {
+                let peer_slips::RunAnswer { ran, places, .. } = peer_slips::board(text, names);
+                Some(match ran {
+                    peer_slips::Ran::Whole => Told::Ran(None, places),
+                    peer_slips::Ran::Blocked(count, machine) => Told::Ran(Some((count, machine)), places),
+                    peer_slips::Ran::Refused(number, detail, second) => refused(number, detail, second),
+                })
+            }
             Service::Steps | Service::Name(_) => None,
         }
     }
@@ -52,6 +64,10 @@ impl Program for Peer {
             }
             Service::Run(events) => again(rounds, || peer::run(black_box(text), black_box(events))),
             Service::Thin => again(rounds, || peer::thin(black_box(text))),
+            Service::Sheet(lent) => {
+                again(rounds, || peer_slips::sheet(black_box(text), black_box(&mut self.sheet[..*lent])));
+            }
+            Service::Board(names) => again(rounds, || peer_slips::board(black_box(text), black_box(names))),
             Service::Steps | Service::Name(_) => unreachable!("a service that the peer has not"),
         }
     }
@@ -76,6 +92,16 @@ fn ran(text: &[u8], events: &[u8]) -> Result<Told, Refusal> {
     })
 }
 
+fn boarded(sheet: &[u8], names: &[u8]) -> Result<Told, Refusal> {
+    let (ran, all) = reference::board_run(RULES, sheet, names)?;
+    let mut places = [0; 16];
+    places.iter_mut().zip(&all).for_each(|(place, stands)| *place = *stands as u8);
+    Ok(match ran {
+        reference::Ran::Whole => Told::Ran(None, places),
+        reference::Ran::Blocked(count, machine) => Told::Ran(Some((count, machine)), places),
+    })
+}
+
 impl Program for Independent {
     fn tell(&mut self, Call { text, service }: &Call) -> Option<Told> {
         let told = match service {
@@ -86,6 +112,8 @@ impl Program for Independent {
             Service::Run(events) => ran(text, events),
             Service::Thin => reference::thin(RULES, text)
                 .map(|kept| Told::Kept(kept.iter().map(|machine| 1 << machine).sum(), kept.len())),
+            Service::Sheet(lent) => reference::rewritten(RULES, text, *lent).map(Told::Sheet),
+            Service::Board(names) => boarded(text, names),
         };
         Some(told.unwrap_or_else(|Refusal(number, detail, second)| refused(number, detail, second)))
     }
@@ -100,6 +128,10 @@ impl Program for Independent {
                 again(rounds, || reference::run(RULES, black_box(text), black_box(&list)));
             }
             Service::Thin => again(rounds, || reference::thin(RULES, black_box(text))),
+            Service::Sheet(lent) => again(rounds, || reference::rewritten(RULES, black_box(text), *lent)),
+            Service::Board(names) => {
+                again(rounds, || reference::board_run(RULES, black_box(text), black_box(names)));
+            }
         }
     }
 }

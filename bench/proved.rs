@@ -1,6 +1,6 @@
 //! The proved library, called as include/split.rs has it.
 use crate::call::{again, Call, Program, Service, Told, SHEET, STEPS};
-use crate::split::{check, name, run, steps, thin, Answer, Name, Run, Set, Step};
+use crate::split::{board, check, name, run, sheet, steps, thin, Answer, Name, Run, Set, Step};
 use std::hint::black_box;
 
 /// The answer, unless a refusal has a number.
@@ -9,6 +9,11 @@ fn or(told: Told, refusal: [usize; 3]) -> Told {
         0 => told,
         _ => Told::Refused(refusal),
     }
+}
+
+fn ran(answer: Run) -> Told {
+    let Run { number, detail, second, blocked, ran, machine, places } = answer;
+    or(Told::Ran((blocked == 1).then_some((ran, machine)), places), [number, detail, second])
 }
 
 pub struct Proved {
@@ -38,25 +43,29 @@ impl Program for Proved {
                 let Name { number, detail, second, from, size } = name(text, *event);
                 or(Told::Name(text[from..from + size].to_vec()), [number, detail, second])
             }
-            Service::Run(events) => {
-                let Run { number, detail, second, blocked, ran, machine, places } = run(text, events);
-                or(Told::Ran((blocked == 1).then_some((ran, machine)), places), [number, detail, second])
-            }
+            Service::Run(events) => ran(run(text, events)),
             Service::Thin => {
                 let Set { number, detail, second, machines, size } = thin(text);
                 or(Told::Kept(machines, size), [number, detail, second])
             }
+            Service::Sheet(lent) => {
+                let Answer { number, detail, second, size } = sheet(text, &mut self.sheet[..*lent]);
+                or(Told::Sheet(self.sheet[..size].to_vec()), [number, detail, second])
+            }
+            Service::Board(names) => ran(board(text, names)),
         })
     }
 
     fn repeat(&mut self, Call { text, service }: &Call, rounds: usize) {
-        let Proved { sheet, steps: records } = self;
+        let Proved { sheet: bytes, steps: records } = self;
         match service {
-            Service::Check(lent) => again(rounds, || check(black_box(text), black_box(&mut sheet[..*lent]))),
+            Service::Check(lent) => again(rounds, || check(black_box(text), black_box(&mut bytes[..*lent]))),
             Service::Steps => again(rounds, || steps(black_box(text), black_box(records))),
             Service::Name(event) => again(rounds, || name(black_box(text), black_box(*event))),
             Service::Run(events) => again(rounds, || run(black_box(text), black_box(events))),
             Service::Thin => again(rounds, || thin(black_box(text))),
+            Service::Sheet(lent) => again(rounds, || sheet(black_box(text), black_box(&mut bytes[..*lent]))),
+            Service::Board(names) => again(rounds, || board(black_box(text), black_box(names))),
         }
     }
 }

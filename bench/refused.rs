@@ -1,6 +1,6 @@
-//! A text for each refusal, made from a text of 32 KB by an edit as late in it as the refusal allows.
+//! A text or a sheet for each refusal, made from one of about 32 KB by an edit as late in it as the refusal allows.
 use crate::call::{Programs, Service, SHEET};
-use crate::cases::{last_event, Case, Text};
+use crate::cases::{last_event, Case, Sheet, Text};
 use crate::peer;
 
 /// What is wrong, the text that it is done to, and how.
@@ -77,9 +77,9 @@ fn step_missing(text: &str) -> String {
     lines.concat()
 }
 
-/// A case for each refusal, 1 to 14. The last two are of an accepted text: one byte less than its sheet is lent, or an
-/// event that is not declared follows a list that runs.
-pub fn refused(programs: &mut Programs, texts: &[Text]) -> Vec<Case> {
+/// A case for each refusal, 1 to 15. 13 and 14 are of an accepted text: one byte less than its sheet is lent, or an event
+/// that is not declared follows a list that runs. 15 is of a sheet.
+pub fn refused(programs: &mut Programs, texts: &[Text], sheets: &[Sheet]) -> Vec<Case> {
     let named = |name: &str| texts.iter().find(|text| text.name == name).expect("a text of that name");
     let edited = EDITS.iter().map(|(what, base, edit)| {
         let text = String::from_utf8(named(base).bytes.clone()).expect("a text of ASCII");
@@ -88,9 +88,12 @@ pub fn refused(programs: &mut Programs, texts: &[Text]) -> Vec<Case> {
     let Text { bytes, walk, .. } = named("both-32k");
     let peer::Answer::Refused(13, sheet, 0) = peer::check(bytes, &mut []) else { panic!("a sheet in no bytes") };
     let stranger = last_event(bytes) as u8 + 1;
+    let last = sheets.last().expect("a sheet");
+    let unended = last.bytes[..last.bytes.len() - 1].to_vec();
     let calls = [
         ("a byte too few for the sheet", bytes.clone(), Service::Check(sheet - 1)),
         ("the last event is not declared", bytes.clone(), Service::Run([&walk[..], &[stranger]].concat())),
+        ("the last byte of a sheet is missing", unended, Service::Sheet(SHEET)),
     ];
     let case = |(number, (what, text, service)): (usize, (&str, Vec<u8>, Service))| {
         let case = Case::new(programs, what, &text, service);
