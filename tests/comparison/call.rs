@@ -109,7 +109,10 @@ impl Call {
     /// To be typed again, if it can be.
     pub fn shown(&self) -> String {
         match self.unsaid {
-            true => format!("{} of {:?} by the library", self.words.join(" "), String::from_utf8_lossy(&self.list)),
+            true => {
+                let names: String = String::from_utf8_lossy(&self.list).chars().take(400).collect();
+                format!("{} of {names:?} by the library", self.words.join(" "))
+            }
             false => format!("split {}", self.words.join(" ")),
         }
     }

@@ -162,7 +162,7 @@ fn main() {
         }
         let fixed = fixed::all().into_iter().chain(boards::fixed::all());
         let texts = generated::Tasks::new(seed, count as usize);
-        let sheets = boards::generated::tasks(seed, count as usize / 5);
+        let sheets = boards::generated::tasks(seed, count as usize / 8);
         let tasks = fixed.chain(texts).chain(sheets);
         for job in std::iter::once(Job::Words).chain(tasks.map(Job::Calls)).take_while(|_| !report.gives_up()) {
             sender.send(job).expect("a worker");

@@ -59,7 +59,8 @@ fn long_lists() -> Vec<Task> {
     let long = |n: usize| board("ready\nbrake\nhome\n".repeat(n) + "home\n");
     let odd = |n: usize| board("home\n".repeat(n) + "nobody\n");
     let mut calls: Vec<Call> = (718..=726).chain([4096, 140_000]).map(names).collect();
-    calls.extend([1000, 30_000].map(long).into_iter().chain([1000, 30_000].map(odd)));
+    calls.extend([1000, 30_000].map(long).into_iter().chain([1000, 30_000, 140_000].map(odd)));
+    calls.extend(["a\n", "a", "ready\n\n"].map(|end| board("x".repeat(1_000_000) + end)));
     vec![Task::new("long list", Y, calls)]
 }
 
@@ -77,12 +78,12 @@ fn pieces() -> Vec<Task> {
     tasks
 }
 
-/// Both calls on each sheet: one in four of either by the program, and all by the library.
+/// Both calls on each sheet: one in eight of either by the program, and all by the library.
 fn many(sheets: Vec<Vec<u8>>) -> Vec<Task> {
     let task = |(turn, sheet): (usize, Vec<u8>)| {
-        let mut calls = vec![call("sheet"), board(["", "a\n", "a\nb-1\n", "a"][turn / 4 % 4])];
+        let mut calls = vec![call("sheet"), board(["", "a\n", "a\nb-1\n", "seven-1\n", "a"][turn / 8 % 5])];
         for (k, call) in calls.iter_mut().enumerate() {
-            call.unsaid |= turn % 4 != 2 * k;
+            call.unsaid |= turn % 8 != 4 * k;
         }
         Task::new("broken sheet", sheet, calls)
     };

@@ -7,6 +7,10 @@ use crate::forms::nearby;
 const TINY: &str = "(accepted 2)\n(machine 0 (places 3) (start 1) (move a 1 2) (move b-1 2 0))\n(machine 1 (places 2) \
                     (start 0) (move a 0 1))\n";
 
+/// Names of every length that matters to whoever reads words of eight bytes, and figures of one and two digits.
+const WIDE: &str = "(accepted 1)\n(machine 0 (places 64) (start 10) (move seven-1 10 9) (move eight-12 9 63) (move \
+                    nine-1234 63 0) (move fifteen-letters 0 11) (move sixteen-letters- 11 10))\n";
+
 /// Figures at and over every bound, in every position that takes one.
 fn figures() -> Vec<String> {
     let figures =
@@ -102,5 +106,6 @@ fn forms() -> Vec<String> {
 
 pub fn all() -> Vec<Vec<u8>> {
     let whole = [figures(), names(), forms()].concat();
-    whole.into_iter().map(String::into_bytes).chain(nearby(TINY.as_bytes())).collect()
+    let near = [TINY, WIDE].into_iter().flat_map(|sheet| nearby(sheet.as_bytes()));
+    whole.into_iter().map(String::into_bytes).chain(near).collect()
 }

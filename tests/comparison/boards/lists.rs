@@ -50,14 +50,15 @@ impl Board {
         self.walk(dice, size).0.iter().map(|event| self.names[*event].clone().into_bytes()).collect()
     }
 
-    /// A name that some event has but for a byte at its end, or one that is alike.
+    /// A name that some event has but for its end, or one that is alike.
     fn near(&self, dice: &mut Dice) -> Vec<u8> {
         let name = self.name(dice);
-        match dice.below(5) {
+        match dice.below(6) {
             0 => name[..name.len() - 1].to_vec(),
             1 => [name, vec![dice.one(b"0-a")]].concat(),
             2 => [name, vec![dice.one(b"\0 \rA\xff")]].concat(),
-            3 => dice.one(&alike()).into_bytes(),
+            3 => [name, vec![dice.one(b"\0 a"); 1 + dice.below(40)]].concat(),
+            4 => dice.one(&alike()).into_bytes(),
             _ => dice.one(&OTHERS).to_vec(),
         }
     }

@@ -172,6 +172,7 @@ fn sizes() -> Vec<Task> {
         ("x".repeat(TEXT_BOUND), "15 1 0"),
         ("x".repeat(TEXT_BOUND + 1), "15 0 0"),
         ("\n".repeat(TEXT_BOUND + 1), "15 0 0"),
+        (Y.to_string() + &"\n".repeat(TEXT_BOUND - Y.len()), "15 4 0"),
         (behind(100_000), "15 0 0"),
         (String::new(), "15 1 0"),
         (Y.trim_end().to_string(), "15 3 0"),
