@@ -4,8 +4,12 @@ use crate::split::Step;
 use crate::RULES;
 use reference::{Ran, Refusal};
 
-/// As the independent program prints a run: it takes no bytes that words can't say.
-fn unsaid(list: &[u8], sheet: &[u8]) -> Vec<u8> {
+/// As the independent program prints it: by itself if it takes these names, which have to be text, each ended.
+fn boarded(list: &[u8], sheet: &[u8]) -> Vec<u8> {
+    if let Some(Ok(names)) = list.strip_suffix(b"\n").map(std::str::from_utf8) {
+        let names: Vec<String> = names.split('\n').map(str::to_string).collect();
+        return reference::answer(RULES, "board", &names, sheet);
+    }
     let places = |all: &[usize]| all.iter().map(|place| format!(" {place}")).collect::<String>();
     let printed = match reference::board_run(RULES, sheet, list) {
         Ok((Ran::Whole, all)) => format!("(whole (places{}))\n", places(&all)),
@@ -19,8 +23,7 @@ fn unsaid(list: &[u8], sheet: &[u8]) -> Vec<u8> {
 pub fn expected(call: &Call, text: &[u8]) -> Vec<u8> {
     let figures = || call.numbers(text).iter().map(usize::to_string).collect::<Vec<_>>();
     let answer = match call.service() {
-        "board" if call.unsaid => unsaid(&call.list, text),
-        "board" => reference::answer(RULES, "board", call.arguments(), text),
+        "board" => boarded(&call.list, text),
         service => reference::answer(RULES, service, &figures(), text),
     };
     if let Some(known) = &call.known {

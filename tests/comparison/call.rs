@@ -1,12 +1,18 @@
 //! A call as the command line has it: a service and its words, on a text or a sheet.
 
+use std::ffi::{OsStr, OsString};
+use std::os::unix::ffi::OsStrExt;
+
+/// What the system takes as one word, in bytes.
+const LONGEST_WORD: usize = 1 << 17;
+
 pub const SERVICES: [&str; 7] = ["check", "steps", "name", "run", "thin", "sheet", "board"];
 
-/// Without a service it is check. A lent size is a figure; an event is a figure or a name, for a board a name.
+/// Without a service it is check. A lent size is a figure; an event is a figure or a name, for a board any bytes.
 #[derive(Clone, PartialEq, Eq, Hash)]
 pub struct Call {
     pub words: Vec<String>,
-    /// For a board: the names as the library takes them, each ended by byte 10.
+    /// For a board, behind its word: the names as the library takes them, each ended by byte 10.
     pub list: Vec<u8>,
     /// Asked of the library only: no words say it, or many of a kind would take long as processes.
     pub unsaid: bool,
@@ -41,17 +47,17 @@ pub fn run(events: &[impl ToString]) -> Call {
     of(std::iter::once("run".to_string()).chain(words).collect())
 }
 
-/// A board with these names, by words if words can say them.
+/// A board with these names. No words say one that is not ended, one with a byte 0, or one that is longer than a word
+/// may be.
 pub fn board(list: impl Into<Vec<u8>>) -> Call {
     let list = list.into();
-    let names = String::from_utf8_lossy(&list);
-    let words: Vec<String> = names.split_terminator('\n').map(str::to_string).collect();
-    let unsaid = !(list.is_empty() || list.ends_with(b"\n")) || !words.iter().all(|word| is_name(word));
-    let said = if unsaid { Vec::new() } else { words };
-    Call { list, unsaid, ..of([vec!["board".to_string()], said].concat()) }
+    let ended = list.is_empty() || list.ends_with(b"\n");
+    let is_word = |name: &[u8]| name.len() < LONGEST_WORD && !name.contains(&0);
+    let unsaid = !(ended && list.split(|b| *b == b'\n').all(is_word));
+    Call { list, unsaid, ..call("board") }
 }
 
-pub fn is_name(word: &str) -> bool {
+fn is_name(word: &str) -> bool {
     let inner = |b: u8| b.is_ascii_lowercase() || b.is_ascii_digit() || b == b'-';
     (1..=16).contains(&word.len()) && word.starts_with(|c: char| c.is_ascii_lowercase()) && word.bytes().all(inner)
 }
@@ -83,6 +89,13 @@ impl Call {
         (&self.words, &self.list, self.unsaid) == (&other.words, &other.list, other.unsaid)
     }
 
+    /// The words with those behind board, whatever their bytes.
+    pub fn said(&self) -> Vec<OsString> {
+        let names = self.list.split_inclusive(|b| *b == b'\n').map(|name| &name[..name.len() - 1]);
+        let words = self.words.iter().map(OsString::from);
+        words.chain(names.map(|name| OsStr::from_bytes(name).to_os_string())).collect()
+    }
+
     pub fn is_on_sheet(&self) -> bool {
         ["sheet", "board"].contains(&self.service())
     }
@@ -108,12 +121,11 @@ impl Call {
 
     /// To be typed again, if it can be.
     pub fn shown(&self) -> String {
-        match self.unsaid {
-            true => {
-                let names: String = String::from_utf8_lossy(&self.list).chars().take(400).collect();
-                format!("{} of {names:?} by the library", self.words.join(" "))
-            }
-            false => format!("split {}", self.words.join(" ")),
+        let names = String::from_utf8_lossy(&self.list).chars().take(400).collect::<String>();
+        match (self.unsaid, self.list.is_empty()) {
+            (true, _) => format!("{} by the library, of {names:?}", self.words.join(" ")),
+            (false, true) => format!("split {}", self.words.join(" ")),
+            (false, false) => format!("split {} {}", self.words.join(" "), names.replace('\n', " ")),
         }
     }
 }

@@ -78,7 +78,7 @@ fn ask(task: &Task, text: &[u8], call: &Call, program: &Program, watchdog: &Watc
     report.call(call, &expected);
     let mut stdout = Vec::new();
     if !call.unsaid {
-        let done = program.call(&call.words, &task.pieces, watchdog);
+        let done = program.call(&call.said(), &task.pieces, watchdog);
         report.program(task, call, text, &expected, &done);
         stdout = done.stdout;
     }

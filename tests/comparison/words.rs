@@ -19,9 +19,8 @@ const NO_EVENTS: &[u8] = b"-1|+1|007|00|01|1.5|0x1|1e3|9x|-|-a|Ready|rEADY|readY
 /// Too few words, too many, or not those of any service.
 const NO_CALLS: &str =
     "name|name 0 1|name ready ready|name Ready x y|run Ready Brake|check 5 6|check 300 0|check ready|steps 5 6|\
-    steps 5 5|steps ready|explain x y|thin 0|thin ready|sheet 5 6|sheet 300 0|sheet ready|board 0|board ready 0|\
-    board Ready Brake|help 1|help run|help Text|help text text|help board|explain|explain 0|\
-    explain 16|explain 01|explain x|\
+    steps 5 5|steps ready|explain x y|thin 0|thin ready|sheet 5 6|sheet 300 0|sheet ready|help 1|help run|help Text|\
+    help text text|help board|explain|explain 0|explain 16|explain 01|explain x|\
     explain 1x|explain -1|explain Open|explain idle event|explain 1 x|explain open 1 2 3|explain 12 0 02|Check|checks|\
     chec|sheets|Board|merge 5|ready|0| check|check 0 | check 0|";
 
@@ -44,7 +43,7 @@ fn parted(line: &str) -> Vec<OsString> {
 
 /// Each of what is no event in each position that takes one, or takes a figure.
 fn wrong_words() -> Vec<Vec<OsString>> {
-    let runs = [&["run"][..], &["run", "0"], &["run", "ready", "300"], &["board"], &["board", "ready"]];
+    let runs = [&["run"][..], &["run", "0"], &["run", "ready", "300"]];
     let others = [&["name"][..], &["check"], &["steps"], &["sheet"], &["explain"]];
     let mut lists: Vec<Vec<OsString>> = NO_CALLS.split('|').map(parted).collect();
     for wrong in NO_EVENTS.split(|b| *b == b'|') {
@@ -54,9 +53,7 @@ fn wrong_words() -> Vec<Vec<OsString>> {
         lists.push(vec![OsString::from("run"), word.into(), OsString::from("1")]);
     }
     lists.extend(HUGE.map(|figure| parted(&format!("explain {figure}"))));
-    for service in ["run", "board"] {
-        lists.extend([40, 41, 4095, 4096, 4097].map(|n| parted(&format!("{service} {}", "x".repeat(n)))));
-    }
+    lists.extend([40, 41, 4095, 4096, 4097].map(|n| parted(&format!("run {}", "x".repeat(n)))));
     lists.extend(["~", "!", "\x7f"].map(|word| parted(&format!("thin {word}"))));
     lists
 }
@@ -65,12 +62,10 @@ fn is_figure(word: &[u8]) -> bool {
     word == b"0" || word.first().is_some_and(|b| *b != b'0') && word.iter().all(u8::is_ascii_digit)
 }
 
-fn is_name(word: &[u8]) -> bool {
-    std::str::from_utf8(word).is_ok_and(crate::call::is_name)
-}
-
 fn is_event(word: &[u8]) -> bool {
-    is_figure(word) || is_name(word)
+    let name = |b: &u8| b.is_ascii_lowercase() || b.is_ascii_digit() || *b == b'-';
+    is_figure(word)
+        || (1..=16).contains(&word.len()) && word[0].is_ascii_lowercase() && word.iter().all(name)
 }
 
 fn is_refusal(word: &[u8]) -> bool {
@@ -84,7 +79,6 @@ fn wrong(words: &[OsString]) -> usize {
         b"check" | b"steps" | b"sheet" => &|k, word| k == 1 && is_figure(word),
         b"name" => &|k, word| k == 1 && is_event(word),
         b"run" => &|_, word| is_event(word),
-        b"board" => &|_, word| is_name(word),
         b"thin" => &|_, _| false,
         b"help" => &|k, word| k == 1 && word == b"text",
         b"explain" => &|k, word| if k == 1 { is_refusal(word) } else { k < 4 && is_figure(word) },

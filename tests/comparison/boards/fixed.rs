@@ -60,7 +60,8 @@ fn long_lists() -> Vec<Task> {
     let odd = |n: usize| board("home\n".repeat(n) + "nobody\n");
     let mut calls: Vec<Call> = (718..=726).chain([4096, 140_000]).map(names).collect();
     calls.extend([1000, 30_000].map(long).into_iter().chain([1000, 30_000, 140_000].map(odd)));
-    calls.extend(["a\n", "a", "ready\n\n"].map(|end| board("x".repeat(1_000_000) + end)));
+    let longest = |n: usize| ["a\n", "a", "\nready\n"].map(|end| board("x".repeat(n) + end));
+    calls.extend([40, 4095, 100_000, 1_000_000].into_iter().flat_map(longest));
     vec![Task::new("long list", Y, calls)]
 }
 
