@@ -1,4 +1,4 @@
-//! Those that the proved library is compared with: the peers, one on texts and one on sheets, and the independent program.
+//! Those that the proved library is compared with: the peer, in two parts, and the independent program.
 use crate::call::{again, Call, Program, Service, Told, SHEET, STEPS};
 use crate::{peer, peer_slips};
 use reference::Refusal;

@@ -1,4 +1,5 @@
-//! The static libraries, called as a C program calls them. Every field of an answer counts, and every entry that is lent.
+//! The static libraries, called as a C program calls them. Every field of an answer counts, and every entry that is
+//! lent.
 use crate::answer::Told;
 use crate::board::{self, board_run, board_sheet};
 use crate::call::{names, Call};

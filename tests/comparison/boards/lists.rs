@@ -63,7 +63,8 @@ impl Board {
         }
     }
 
-    /// A walk, a walk that goes on by chance, names by chance, none; then some of it near a name, or the last one not ended.
+    /// A walk, a walk that goes on by chance, names by chance, none; then some of it near a name, or the last one not
+    /// ended.
     pub fn list(&self, dice: &mut Dice) -> Call {
         let [size, after] = [(); 2].map(|_| dice.one(&[0, 1, 2, 3, 5, 8, 13, 40]));
         let kind = dice.below(12);

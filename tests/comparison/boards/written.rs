@@ -1,4 +1,5 @@
-//! Sheets and lists of names written by hand, each with its answer: the sheet of Y, every bound, two faults in one sheet.
+//! Sheets and lists of names written by hand, each with its answer: the sheet of Y, every bound, two faults in one
+//! sheet.
 use crate::call::{board, call, Call, Task};
 use crate::draft::lines;
 use reference::TEXT_BOUND;
