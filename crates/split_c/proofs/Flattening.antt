@@ -8,36 +8,19 @@ use Rattle.model.specs.declared.Refusal as D
 use Rattle.model.specs.Cases.{tabled}
 use Rattle.model.specs.Refusal.{Refusal, Checked, refused, passed, refusalOf}
 use Rattle.model.specs.Services as Services
-use Rattle.model.specs.Services.{Part, name, handedBack, nameRefusal, refusedBy}
+use Rattle.model.specs.Services.{Part, name, handedBack, nameRefusal}
 use Rattle.rows.specs.declared.Verdict.the-variants as C
 use Rattle.rows.specs.Tables.{verdictRefusal}
-use Rattle.product.specs.declared.Outcome.{Outcome}
 use Rattle.product.specs.declared.Outcome.the-variants as O
-use Rattle.product.specs.declared.RunAnswer.{RunAnswer}
-use Rattle.product.specs.Answers.{outcomeIs, runAnswer}
 use Rattle.name_service.specs.declared.NamePart.{NamePart}
 use Rattle.name_service.specs.Parts.{Named}
-use Rattle.answers.specs.declared.Answer.{Answer}
 use Rattle.answers.specs.declared.Answer.the-variants as A
 use Rattle.thin_service.specs.declared.Thinned.{Thinned}
 use Rattle.thin_service.specs.declared.Thinned.the-variants as T
 use Rattle.answers.specs.declared.RefusalNumbers.{RefusalNumbers}
-use Rattle.answers.specs.Answers.{answered, numbered}
+use Rattle.answers.specs.Answers.{numbered}
 use Rattle.thin_service.specs.Answers.{thinned}
-use Rattle.split_c.specs.declared.FlatOutcome.{FlatOutcome}
-use Rattle.split_c.specs.Flat.{flatAnswer, flatPart, flatOutcome, withPlaces, flatRun, flatSet}
-
--- ---- check and steps
-
-module _ {answer : Answer} where
-  pub answer-refused : {why : D.Refusal} (n : RefusalNumbers) → answer ≡ A.Refused why → numbered n ≡ tabled why
-      → record { number = n .number; detail = n .detail; second = n .second; size = 0 } ≡ flatAnswer (answered answer)
-  unfolding flatAnswer answered numbered
-  answer-refused n e q = rw e (ap (λ (r : Refusal). flatAnswer (refused r)) q)
-
-  pub answer-accepted : {size : ℕ} → answer ≡ A.Accepted size → record { number = 0; detail = 0; second = 0; size = size } ≡ flatAnswer (answered answer)
-  unfolding flatAnswer answered
-  answer-accepted e = ap (λ (a : Answer). flatAnswer (answered a)) (sym e)
+use Rattle.split_c.specs.Flat.{flatPart, flatSet}
 
 -- ---- name
 
@@ -65,27 +48,6 @@ module _ {s : List ℕ} {e : ℕ} {part : NamePart} (h : Named s e part) where
   name-passed q =
       let size : part .end - part .from ≡ handedBack (name s e) .size = omega (arith, h .begins, h .ends) in
       rw (size, h .begins) (of-part (name s e) (rw q at (h .verdict)))
-
--- ---- run
-
-module _ {outcome : Outcome} where
-  pub outcome-whole : outcome ≡ O.Whole → record { number = 0; detail = 0; second = 0; blocked = 0; ran = 0; machine = 0 } ≡ flatOutcome (outcomeIs outcome)
-  unfolding flatOutcome outcomeIs
-  outcome-whole e = ap (λ (o : Outcome). flatOutcome (outcomeIs o)) (sym e)
-
-  pub outcome-blocked : {ran machine : ℕ} → outcome ≡ O.Blocked ran machine
-      → record { number = 0; detail = 0; second = 0; blocked = 1; ran = ran; machine = machine } ≡ flatOutcome (outcomeIs outcome)
-  unfolding flatOutcome outcomeIs
-  outcome-blocked e = ap (λ (o : Outcome). flatOutcome (outcomeIs o)) (sym e)
-
-  pub outcome-refused : {why : D.Refusal} (n : RefusalNumbers) → outcome ≡ O.Refused why → numbered n ≡ tabled why
-      → record { number = n .number; detail = n .detail; second = n .second; blocked = 0; ran = 0; machine = 0 } ≡ flatOutcome (outcomeIs outcome)
-  unfolding flatOutcome outcomeIs numbered
-  outcome-refused n e q = rw e (ap (λ (r : Refusal). flatOutcome (refusedBy r)) q)
-
-pub run-told : (a : RunAnswer) {t : FlatOutcome} {r : Services.RunAnswer} → runAnswer a ≡ r → t ≡ flatOutcome (outcomeIs (a .outcome)) → withPlaces t (a .places) ≡ flatRun r
-unfolding flatRun runAnswer
-run-told a e q = ap (λ (t : FlatOutcome). withPlaces t (a .places)) q ∙ ap flatRun e
 
 -- ---- thin
 

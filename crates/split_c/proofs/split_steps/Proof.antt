@@ -51,14 +51,14 @@ use Rattle.steps_service.proofs.steps as steps
 use Rattle.steps_service.proofs.steps.Symbol as steps-def
 use Rattle.steps_service.proofs.steps.Symbol.{name as #steps-service·steps}
 use Rattle.steps_service.proofs.steps.Met as steps-thm
-use Rattle.split_c.specs.Flat.{flatAnswer}
-use Rattle.split_c.specs.declared.SplitAnswer.{SplitAnswer}
-use Rattle.split_c.proofs.SplitAnswer as T
-use Rattle.split_c.proofs.SplitAnswer.Laws as T′
-use Rattle.split_c.proofs.flat as flat
-use Rattle.split_c.proofs.flat.Symbol as flat-def
-use Rattle.split_c.proofs.flat.Symbol.{name as #split-c·flat}
-use Rattle.split_c.proofs.flat.Met as flat-thm
+use Rattle.flat.specs.Flat.{flatAnswer}
+use Rattle.flat.specs.declared.FlatAnswer.{FlatAnswer}
+use Rattle.flat.proofs.FlatAnswer as T
+use Rattle.flat.proofs.FlatAnswer.Laws as T′
+use Rattle.flat.proofs.flat_answer as flat
+use Rattle.flat.proofs.flat_answer.Symbol as flat-def
+use Rattle.flat.proofs.flat_answer.Symbol.{name as #flat·flat-answer}
+use Rattle.flat.proofs.flat_answer.Met as flat-thm
 use Rattle.split_c.proofs.split_steps.Key.{name as #split-c·split-steps}
 use Rattle.split_c.proofs.split_steps as split-steps
 use Rattle.split_c.proofs.split_steps.Statement as stated
@@ -77,7 +77,7 @@ module _ {M : Type 1} (𝓤 : URA M) (H : Heap 𝓤) (A : Atoms 𝓤) (mem′ : 
 
   -- that the table of calls meets them
   abbrev Known : Calls 𝓤 H → Type 1
-  Known C = Triple 𝓤 (C #steps-service·steps) TheSteps × Triple 𝓤 (C #split-c·flat) TheFlat
+  Known C = Triple 𝓤 (C #steps-service·steps) TheSteps × Triple 𝓤 (C #flat·flat-answer) TheFlat
 
 module _ {M : Type 1} (𝓤 : URA M) (H : Heap 𝓤) (A : Atoms 𝓤) (W : Given 𝓤 H A) (mem′ : Memory → SProp 𝓤) (run : Routine → Fun 𝓤) (κ κ₁ : Lft) (q q₁ : Share) (text : RefT (List ℕ)) (b o : ℕ) (γ₁ : GName) (ys : List Transition) (room₁ : Room u8 (length (now text))) (room : Room S.the-row (length ys)) where
   abbrev x : RefT (List Transition)
@@ -128,10 +128,10 @@ module _ {M : Type 1} (𝓤 : URA M) (H : Heap 𝓤) (A : Atoms 𝓤) (W : Given
     asked₂ : ent 𝓤 (emp 𝓤) (TheFlat 𝓤 H A mem′ run .pre to₂)
     asked₂ = qed W [] ∵ nothing ! $ owned ! N.the-row (Is N.the-row) (EL.makes N.the-type N′.the-plain 𝓤 H A) r (w ∷ []) is-r $ fjoin ! $ nothing ! $ join ! $ frame ! $ done !
 
-    said₂ : (d : SplitAnswer) → ent 𝓤 (ensured 𝓤 H A flat.ended (flat.clauses 𝓤 H A mem′ run) tt (r, tt) tt d) (fact 𝓤 (d ≡ flatAnswer (answered r)))
+    said₂ : (d : FlatAnswer) → ent 𝓤 (ensured 𝓤 H A flat.ended (flat.clauses 𝓤 H A mem′ run) tt (r, tt) tt d) (fact 𝓤 (d ≡ flatAnswer (answered r)))
     said₂ d = exE 𝓤 _ (λ ws. snd∗ 𝓤 (sem 𝓤 H A (lasts flat.ended tt (r, tt) ws)) (fact 𝓤 (d ≡ flatAnswer (answered r))))
 
-    exits : (d : SplitAnswer) (u : Val) → d ≡ flatAnswer (answered r) → ent 𝓤 (⋆ 𝓤 H A (Toks ∷ ‵ (finally S.the-row γ₁ zs) ∷ ‵ (T.the-row .own d (u ∷ [])) ∷ [])) (Post u)
+    exits : (d : FlatAnswer) (u : Val) → d ≡ flatAnswer (answered r) → ent 𝓤 (⋆ 𝓤 H A (Toks ∷ ‵ (finally S.the-row γ₁ zs) ∷ ‵ (T.the-row .own d (u ∷ [])) ∷ [])) (Post u)
     exits d u e =
         qed W (Toks ∷ ‵ (finally S.the-row γ₁ zs) ∷ ‵ (T.the-row .own d (u ∷ [])) ∷ []) ∵
         suffices ! _ (ends-at 𝓤 H A split-steps.ended stayed (split-steps.clauses 𝓤 H A mem′ run) W (((κ, (κ₁, tt)), (q, (q₁, tt)), tt, a, vals), tt) u d (tt, (zs, tt)) (tt, (same, tt))) $
@@ -178,7 +178,7 @@ module _ {M : Type 1} (𝓤 : URA M) (H : Heap 𝓤) (A : Atoms 𝓤) (W : Given
           qed W (Answered w zs) ∵ exec ! (𝓣 .C) (𝓣 .Λ) E₀ code.Mir.t-4 (atRet E₀ Post) $
           use0 W (raw (TheFlat 𝓤 H A mem′ run .pre (to₂ r w is-r zs same said))) (asked₂ r w is-r zs same said) $
           calls-at ! (fmOf 𝓤 H (W .laws) 𝓣) (TheFlat 𝓤 H A mem′ run) (known .1) (to₂ r w is-r zs same said) (and-then ! (load ! (from ! (stop !)) (look ! 9 refl)) (no-more !)) (λ u.
-          use1 W (later (some (λ (d : SplitAnswer). (‵ ftrue ⊛ ‵ (T.the-row .own d (u ∷ []))) ⊛ raw (ensured 𝓤 H A flat.ended (flat.clauses 𝓤 H A mem′ run) tt (r, tt) tt d)))) (id⊢ 𝓤 _) $ await ! tt $ pick ! (λ d. split ! $
+          use1 W (later (some (λ (d : FlatAnswer). (‵ ftrue ⊛ ‵ (T.the-row .own d (u ∷ []))) ⊛ raw (ensured 𝓤 H A flat.ended (flat.clauses 𝓤 H A mem′ run) tt (r, tt) tt d)))) (id⊢ 𝓤 _) $ await ! tt $ pick ! (λ d. split ! $
           move ! (1 ∷ []) $ use1 W (raw (fact 𝓤 (d ≡ flatAnswer (answered r)))) (said₂ r w is-r zs same said d) $ heard ! (d ≡ flatAnswer (answered r)) (λ e. split ! $
           move ! (1 ∷ []) $ peeks ! T.the-row (Is T.the-row) (shows 𝓤 H A T.the-row) d (u ∷ []) (λ is-d. land ! (from ! (stop !)) (init ! 4 refl (LL.lawful T.the-type T′.the-laws 𝓤 H A W .typed d _ is-d .0)) $ returns ! (look ! 4 refl) $
           forget ! 4 refl $ forget ! 6 refl $ forget ! 8 refl $ forget ! 10 refl $ forget ! 12 refl $ forget ! 14 refl $
@@ -231,5 +231,5 @@ split-steps-spec 𝓤 H 𝓜 𝓖 𝓡 =
     (tables 𝓤 H 𝓜 𝓡 code.env .C) (tables 𝓤 H 𝓜 𝓡 code.env .Λ) #split-c·split-steps code.function (code.unfolded 𝓤 H 𝓜 𝓡)
     (meets 𝓤 H (𝓖 .A) (givenOf 𝓤 H 𝓜 𝓖) (𝓜 .mem) (𝓡 .run) (tablesOf 𝓤 H 𝓜 (tables 𝓤 H 𝓜 𝓡 code.env)) (
       cited 𝓤 H (TheSteps 𝓤 H (𝓖 .A) (𝓜 .mem) (𝓡 .run)) 𝓜 𝓡 code.env #steps-service·steps steps-def.routine code.calls-splitter·steps (steps-thm.met 𝓤 H 𝓜 𝓖 𝓡),
-      cited 𝓤 H (TheFlat 𝓤 H (𝓖 .A) (𝓜 .mem) (𝓡 .run)) 𝓜 𝓡 code.env #split-c·flat flat-def.routine code.calls-split-c·flat (flat-thm.met 𝓤 H 𝓜 𝓖 𝓡),
+      cited 𝓤 H (TheFlat 𝓤 H (𝓖 .A) (𝓜 .mem) (𝓡 .run)) 𝓜 𝓡 code.env #flat·flat-answer flat-def.routine code.calls-split-c·flat (flat-thm.met 𝓤 H 𝓜 𝓖 𝓡),
     ))

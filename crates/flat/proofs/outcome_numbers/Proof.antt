@@ -1,8 +1,8 @@
--- `split_c::outcome_numbers` meets its contract.
+-- `flat::outcome_numbers` meets its contract.
 use borrow.Author.Needs.{needs}
-use Rattle.split_c.proofs.Flattening.{outcome-whole, outcome-blocked, outcome-refused}
-use Rattle.split_c.proofs.outcome_numbers.Statement.{statement}
-use Rattle.split_c.proofs.outcome_numbers.Tie as tie
+use Rattle.flat.proofs.Flattening.{outcome-whole, outcome-blocked, outcome-refused}
+use Rattle.flat.proofs.outcome_numbers.Statement.{statement}
+use Rattle.flat.proofs.outcome_numbers.Tie as tie
 
 enum-told : tie.Need-enum-told
 enum-told c = search needs

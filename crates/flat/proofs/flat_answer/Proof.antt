@@ -1,8 +1,8 @@
--- `split_c::flat` meets its contract.
+-- `flat::flat_answer` meets its contract.
 use borrow.Author.Needs.{needs}
-use Rattle.split_c.proofs.Flattening.{answer-refused, answer-accepted}
-use Rattle.split_c.proofs.flat.Statement.{statement}
-use Rattle.split_c.proofs.flat.Tie as tie
+use Rattle.flat.proofs.Flattening.{answer-refused, answer-accepted}
+use Rattle.flat.proofs.flat_answer.Statement.{statement}
+use Rattle.flat.proofs.flat_answer.Tie as tie
 
 enum-known-answer : tie.Need-enum-known-answer
 enum-known-answer c = search needs
@@ -19,6 +19,6 @@ returns c = answer-refused _ (c .before .before .answer .given .1) (c .numbers .
 returns-2 : tie.Need-returns-2
 returns-2 c = answer-accepted (c .before .answer2 .given .1)
 
-pub flat-spec : {M : Type 1} → statement M
-flat-spec =
+pub flat-answer-spec : {M : Type 1} → statement M
+flat-answer-spec =
     tie.close (tie.spec enum-known-answer numbers-requires enum-known-answer-2 returns returns-2)

@@ -1,0 +1,2 @@
+-- `Flat`: each answer as numbers.
+pub mod Flat
