@@ -11,9 +11,9 @@ use borrow.Author.Tests.{ltb-true, eqb-true}
 use Rattle.model.specs.Bytes.{bytes, Name, IsName}
 use Rattle.model.specs.Lists.{every}
 use Rattle.model.specs.Reading.{got, part}
-use Rattle.model.specs.Sheet.{NamedMove, moveBytes, moveForm}
+use Rattle.model.specs.Sheet.{NamedMove, moveBytes, writtenMove, moveForm}
 use Rattle.model.proofs.Laws.{both}
-use Rattle.model.proofs.SheetForms.{namedBytes, MoveFormed, move-complete}
+use Rattle.model.proofs.SheetForms.{MoveFormed, move-complete}
 use Rattle.model.proofs.Words.{Spans, then, spans-part}
 use Rattle.lexer.specs.Words.{packed}
 use Rattle.names.specs.Held.{PackedNames, Same}
@@ -26,7 +26,7 @@ use Rattle.quick_move.specs.Quick.{ReadsMove, Framed}
 words : {s : List ℕ} {at m1 m2 m3 m4 m5 m6 next a b : ℕ} {w : Name} → IsName w → Spans s at (bytes " (move ") m1 → Spans s m1 w m2
     → Spans s m2 (bytes " ") m3 → FigureStands s m3 a m4 → Spans s m4 (bytes " ") m5 → FigureStands s m5 b m6 → Spans s m6 (bytes ")") next
     → moveForm s at ≡ got (record { event = w; pre = a; post = b }) next
-unfolding namedBytes moveBytes
+unfolding writtenMove moveBytes
 words {s} {at} {next = next} {a} {b} {w} o p1 p2 p3 p4 p5 p6 p7 =
     let x : NamedMove = record { event = w; pre = a; post = b } in
     let p = then p1 (then p2 (then p3 (then (p4 .spans) (then p5 (then (p6 .spans) p7))))) in
