@@ -2,6 +2,7 @@
 use crate::call::{board, call, names, Call, Task};
 use crate::dice::Dice;
 use crate::draft::alike;
+use std::collections::BTreeSet;
 
 mod defects;
 pub mod fixed;
@@ -55,10 +56,25 @@ fn machine(dice: &mut Dice, number: usize, places: usize, mut names: Vec<String>
     Machine { number, places, start, moves: names.into_iter().map(&mut moved).collect() }
 }
 
-/// Names that are alike or numbered, on one machine or on several each.
+/// 64 names of any bytes: wherever a name's bytes come to few numbers, some of them share one.
+fn any_names(dice: &mut Dice) -> Vec<String> {
+    let mut names = BTreeSet::new();
+    while names.len() < 64 {
+        let first = dice.one(b"abcdefghijklmnopqrstuvwxyz");
+        let rest = (0..dice.below(16)).map(|_| dice.one(b"abcdefghijklmnopqrstuvwxyz0123456789-"));
+        names.insert(std::iter::once(first).chain(rest).map(char::from).collect());
+    }
+    names.into_iter().collect()
+}
+
+/// Names that are alike, numbered or any, on one machine or on several each.
 pub fn good(dice: &mut Dice) -> Sheet {
     let numbered = (0..64).map(|k| format!("e{k}")).collect();
-    let mut names = dice.one(&[alike(), numbered]);
+    let mut names = match dice.below(3) {
+        0 => alike(),
+        1 => numbered,
+        _ => any_names(dice),
+    };
     dice.shuffle(&mut names);
     names.truncate(dice.one(&[0, 1, 2, 3, 5, 8, 20, 64]));
     let count = dice.one(&[1, 1, 2, 2, 3, 3, 4, 5, 9, 10, 11, 16]);

@@ -79,12 +79,12 @@ fn pieces() -> Vec<Task> {
     tasks
 }
 
-/// Both calls on each sheet: one in eight of either by the program, and all by the library.
+/// Both calls on each sheet: one in twelve of either by the program, and all by the library.
 fn many(sheets: Vec<Vec<u8>>) -> Vec<Task> {
     let task = |(turn, sheet): (usize, Vec<u8>)| {
-        let mut calls = vec![call("sheet"), board(["", "a\n", "a\nb-1\n", "seven-1\n", "a"][turn / 8 % 5])];
+        let mut calls = vec![call("sheet"), board(["", "a\n", "a\nb-1\n", "nine-1234\na\n", "a"][turn / 12 % 5])];
         for (k, call) in calls.iter_mut().enumerate() {
-            call.unsaid |= turn % 8 != 4 * k;
+            call.unsaid |= turn % 12 != 6 * k;
         }
         Task::new("broken sheet", sheet, calls)
     };

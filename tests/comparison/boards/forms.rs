@@ -7,9 +7,15 @@ use crate::forms::nearby;
 const TINY: &str = "(accepted 2)\n(machine 0 (places 3) (start 1) (move a 1 2) (move b-1 2 0))\n(machine 1 (places 2) \
                     (start 0) (move a 0 1))\n";
 
-/// Names of every length that matters to whoever reads words of eight bytes, and figures of one and two digits.
-const WIDE: &str = "(accepted 1)\n(machine 0 (places 64) (start 10) (move seven-1 10 9) (move eight-12 9 63) (move \
-                    nine-1234 63 0) (move fifteen-letters 0 11) (move sixteen-letters- 11 10))\n";
+/// Names of every length that matters to whoever reads words of eight bytes, figures of one and two digits. The second
+/// machine has names that were there before and bytes enough behind, so that it may be read by another way.
+const WIDE: &str = "(accepted 3)\n(machine 0 (places 64) (start 10) (move a 9 10) (move eight-12 9 63) (move nine-1234 63 0) \
+                    (move sixteen-letters- 11 10))\n(machine 1 (places 64) (start 9) (move nine-1234 10 9) (move a 9 63) \
+                    (move sixteen-letters- 0 11) (move eight-12 1 0))\n(machine 2 (places 10) (start 9) (move a 9 0))\n";
+
+/// The same in short, for what may stand in the place of the second machine's moves.
+const AGAIN: &str = "(accepted 3)\n(machine 0 (places 64) (start 0) (move a 0 1) (move b 1 2))\n(machine 1 (places 3) \
+                     (start 1)#)\n(machine 2 (places 10) (start 9) (move home 9 0))\n";
 
 /// Figures at and over every bound, in every position that takes one.
 fn figures() -> Vec<String> {
@@ -27,8 +33,10 @@ fn figures() -> Vec<String> {
         "(accepted 1)\n(machine 0 (places 10) (start 0) (move a 2 #))\n",
         "(accepted 1)\n(machine 0 (places 64) (start 0) (move a # #))\n",
     ];
-    let fill = |hole: &&str| figures.split(' ').map(|f| hole.replace('#', f)).collect::<Vec<_>>();
-    holes.iter().flat_map(fill).collect()
+    let again = [" (move a # 1)", " (move b 1 #)", " (move a # #)", " (move a 2 1) (move b # 0)"];
+    let again = again.map(|moves| AGAIN.replace('#', moves));
+    let holes = holes.into_iter().map(String::from).chain(again);
+    holes.flat_map(|hole| figures.split(' ').map(|f| hole.replace('#', f)).collect::<Vec<_>>()).collect()
 }
 
 /// One machine, or two, with a move for each name.
@@ -57,7 +65,10 @@ fn names() -> Vec<String> {
     }
     for n in 1..=16 {
         let name = "x".repeat(n);
-        sheets.extend((1..=17 - n).map(|zeros| with_names(&[&[name.clone(), name.clone() + &"\0".repeat(zeros)]])));
+        for padded in (1..=17 - n).map(|zeros| name.clone() + &"\0".repeat(zeros)) {
+            sheets.push(with_names(&[&[name.clone(), padded.clone()]]));
+            sheets.push(with_names(&[&[name.clone()], &[padded], &["behind".to_string()]]));
+        }
     }
     sheets
 }
@@ -100,8 +111,9 @@ fn forms() -> Vec<String> {
     let machines = FOR_MACHINE.split('|').map(|other| with(TINY, lines[1], other));
     let last = FOR_MACHINE.split('|').map(|other| with(TINY, lines[2], &other.replace("machine 0", "machine 1")));
     let moves = FOR_MOVES.split('|').map(|other| with(TINY, " (move a 1 2) (move b-1 2 0)", other));
+    let again = FOR_MOVES.split('|').map(|other| AGAIN.replace('#', other));
     let ends = ["\r\n", " ", "", "\n\n"].map(|end| TINY.replace('\n', end));
-    counts.chain(machines).chain(last).chain(moves).chain(ends).collect()
+    counts.chain(machines).chain(last).chain(moves).chain(again).chain(ends).collect()
 }
 
 pub fn all() -> Vec<Vec<u8>> {
