@@ -1,4 +1,4 @@
--- The laws of crate `lexer`. For the crates above: Answers, Loops, Moves and Telling.
+-- The laws of crate `lexer`. For the crates above: Answers, Loops, Moves, Telling and Joining.
 
 -- the functions' own: along a text byte by byte, packing, and figures and names from their bytes
 pub mod Runs
@@ -11,3 +11,5 @@ pub mod Loops
 pub mod Moves
 -- a name is told by its length and its two numbers
 pub mod Telling
+-- readers one after another
+pub mod Joining
