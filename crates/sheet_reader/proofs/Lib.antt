@@ -1,0 +1,11 @@
+-- The laws of crate `sheet_reader`.
+
+-- names and moves that a board keeps: one move more, and the moves of a line
+pub mod BoardRows
+pub mod LineRows
+-- a move and the moves of a line into the rows, by the ways out of the code
+pub mod Adding
+pub mod Moving
+-- a line, and the whole sheet
+pub mod Lining
+pub mod Sheeting
