@@ -1,11 +1,8 @@
--- Check and sheet, by its ways out: whether the text passes 12, and whether the sheet fits.
-use Prim.Native.Nat.{ℕ, _<_, _≤_}
-use mathlib.Core.Path.{_≡_, refl, _∙_}
+-- Check and sheet, by whether the text passes 12.
+use Prim.Native.Nat.{ℕ}
+use mathlib.Core.Path.{_≡_, refl}
 use mathlib.Core.List.{List}
-use lib.ListN.{length}
-use lib.Seq.{sets}
 use Rattle.model.specs.declared.Refusal as D
-use Rattle.model.specs.declared.Refusal.the-variants.{BufferTooShort}
 use Rattle.model.specs.Cases.{tabled}
 use Rattle.model.specs.Refusal.{Checked, refused, passed}
 use Rattle.model.specs.Sheet.{sheet}
@@ -13,30 +10,11 @@ use Rattle.model.specs.Services.{asFarAs12, lend, check}
 use Rattle.rows.specs.declared.Tables.{Tables}
 use Rattle.rows.proofs.Bounds.{limits}
 use Rattle.sheet.specs.Written.{rowSheet}
-use Rattle.sheet.proofs.Told.{told-sheet, lent}
+use Rattle.sheet.proofs.Told.{told-sheet}
 use Rattle.stages.specs.Stages.{Judged}
 use Rattle.stages.proofs.Stages.{past-12, machines-pass}
-use Rattle.answers.specs.declared.Answer.{Answer}
 use Rattle.answers.specs.declared.Answer.the-variants as A
 use Rattle.answers.specs.Answers.{answered}
-use Rattle.answers.proofs.Lending.{lent-all, lent-none}
-
--- ---- a sheet, by whether it fits
-
-module _ (out xs : List ℕ) (size : ℕ) (e : size ≡ length xs) where
-  -- this is what lending answers and leaves
-  abbrev Lends : Answer → List ℕ → Type 0
-  Lends a left = (answered a ≡ lend (passed xs) out .answer) × (left ≡ lend (passed xs) out .left)
-
-  pub too-short : length out < size → Lends (A.Refused (BufferTooShort size)) out
-  unfolding answered tabled
-  too-short l = rw (lent-none xs out (rw e at l), e) (refl, refl)
-
-  pub written : (left : List ℕ) → size ≤ length out → left ≡ sets out 0 xs → Lends (A.Accepted size) left
-  unfolding answered
-  written left l w = let fits = rw e at l in rw (lent-all xs out fits, e) (refl, w ∙ lent out xs fits)
-
--- ---- the call
 
 -- refused by 1 to 12
 pub check-refused : (s out : List ℕ) (why : D.Refusal) → asFarAs12 s ≡ refused (tabled why)

@@ -15,7 +15,7 @@ use Rattle.model.specs.Printed.{printedBy, fitting}
 use Rattle.writers.specs.Written.{Writes}
 use Rattle.writers.proofs.Writing.{writes-length}
 use Rattle.writers.proofs.Refusals.{refusal-fits}
-use Rattle.sheet.proofs.Told.{lent}
+use Rattle.answers.proofs.Lending.{lent}
 use Rattle.printing.specs.Shown.{Shows}
 
 pub shows-written : {word out left : List ℕ} {n : ℕ} → Writes word 0 out n left → length word ≤ length out → length out ≡ 32768 → Shows word n left

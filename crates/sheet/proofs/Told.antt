@@ -1,4 +1,4 @@
--- The sheet that the rows give is the model's, if the rows tell a value that passes 8 to 10 and its moves; and what a lent buffer holds once it is written.
+-- The sheet that the rows give is the model's, if the rows tell a value that passes 8 to 10 and its moves.
 use Prim.Native.Nat.{ℕ, zero, suc, _+_, _*_, _<_, _≤_}
 use native.Mathlib.Omega.{arith}
 use mathlib.Core.Path.{_≡_, refl, ap, _∙_}
@@ -88,7 +88,3 @@ sheet-bounds c ats lens sources events targets sizes duplicates places b l z p =
       sizes-size = z;
       places-size = p;
     }
-
--- a lent buffer that is long enough begins with what is written, and goes on as it was
-pub lent : (out xs : List ℕ) → length xs ≤ length out → sets out 0 xs ≡ xs ++ drop (length xs) out
-lent out xs h = let z : 0 + length xs ≡ length xs = omega arith in sets-eq xs out 0 (omega arith) ∙ rw z

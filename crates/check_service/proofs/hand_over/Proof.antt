@@ -1,7 +1,7 @@
 -- `check_service::hand_over` meets its contract: both answers are laws of `Checking` at what the calls have said.
 use mathlib.Core.List.{[]}
 use borrow.Author.Needs.{needs}
-use Rattle.check_service.proofs.Checking.{too-short, written}
+use Rattle.answers.proofs.Lending.{lends-short, lends-written}
 use Rattle.check_service.proofs.hand_over.Statement.{statement}
 use Rattle.check_service.proofs.hand_over.Tie as tie
 
@@ -14,7 +14,7 @@ sheet-len-requires c κs = let p = c .before .before .before .before .before .be
 
 returns : tie.Need-returns
 returns c = λ sources events targets duplicates.
-    too-short _ _ _ (c .before .sheet-len .ensures _ _ sources events targets duplicates (entered (c .before) .pre .3)) (c .if1 .taken)
+    lends-short _ _ _ (c .before .sheet-len .ensures _ _ sources events targets duplicates (entered (c .before) .pre .3)) (c .if1 .taken)
 
 write-sheet-requires : tie.Need-write-sheet-requires
 write-sheet-requires c κs =
@@ -28,7 +28,7 @@ same-length c = search needs
 returns-2 : tie.Need-returns-2
 returns-2 c = λ sources events targets duplicates.
     let sized = c .before .before .before .before .before in
-    written _ _ _ (sized .sheet-len .ensures _ _ sources events targets duplicates (entered sized .pre .3)) _ (c .before .before .before .before .if1 .left)
+    lends-written _ _ _ (sized .sheet-len .ensures _ _ sources events targets duplicates (entered sized .pre .3)) _ (c .before .before .before .before .if1 .left)
     (c .before .before .write-sheet .ensures sources events targets duplicates)
 
 pub hand-over-spec : {M : Type 1} → statement M
