@@ -19,13 +19,13 @@ use Rattle.product.specs.Stepping.{Steps, IsPadded, EventsOn, RunsFrom}
 use Rattle.product.proofs.Firing.{step-moves, step-blocks, still-padded}
 
 -- n events ran before
-abbrev after : ℕ → Ran → Ran
+abbrev pub after : ℕ → Ran → Ran
 after n r = record { ran = n + r .ran; blocked = r .blocked; places = r .places }
 
-after-none : (r : Ran) → r ≡ after 0 r
+pub after-none : (r : Ran) → r ≡ after 0 r
 after-none r = let z : 0 + r .ran ≡ r .ran = omega arith in rw z
 
-after-one : (n : ℕ) (r : Ran) → after n (oneMore r) ≡ after (n + 1) r
+pub after-one : (n : ℕ) (r : Ran) → after n (oneMore r) ≡ after (n + 1) r
 unfolding oneMore
 after-one n r = let z : n + suc (r .ran) ≡ n + 1 + r .ran = omega arith in rw z
 
