@@ -2,6 +2,8 @@
 pub use answers::Answer;
 pub use answers::RefusalNumbers;
 pub use answers::numbers;
+pub use board_service::board;
+pub use board_service::sheet;
 pub use check_service::check;
 pub use name_service::name;
 pub use name_service::name_refusal;
