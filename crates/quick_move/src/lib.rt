@@ -92,25 +92,19 @@ fn verified_move<'a>(
     if !formed {
         return QuickMove::Unknown;
     }
-    let k = hint(hints, name.high, name.low);
-    if is_known(len, high, low, count, k, size, name.high, name.low) {
-        return QuickMove::Found {
-            event: k,
-            pre: a.value,
-            post: b.value,
-            next,
-        };
+    let mut k = hint(hints, name.high, name.low);
+    if !is_known(len, high, low, count, k, size, name.high, name.low) {
+        k = second_hint(hints, name.high, name.low);
+        if !is_known(len, high, low, count, k, size, name.high, name.low) {
+            return QuickMove::Unknown;
+        }
     }
-    let j = second_hint(hints, name.high, name.low);
-    if is_known(len, high, low, count, j, size, name.high, name.low) {
-        return QuickMove::Found {
-            event: j,
-            pre: a.value,
-            post: b.value,
-            next,
-        };
+    QuickMove::Found {
+        event: k,
+        pre: a.value,
+        post: b.value,
+        next,
     }
-    QuickMove::Unknown
 }
 
 // The move at a position, if the hints lead to its name and its figures have at most two digits.

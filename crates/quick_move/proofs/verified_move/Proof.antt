@@ -60,22 +60,15 @@ hint-requires c κs = search needs
 is-known-requires : tie.Need-is-known-requires
 is-known-requires c κs = search needs
 
-returns-2 : tie.Need-returns-2
-unfolding ReadsQuickly
-returns-2 c =
-    let e = c .before .before .before in
-    let f = e .before .before .before in
-    let d = f .before .before .before .before .before .before .before .before in
-    verified (now (d .args .s)) (now (d .args .len)) (now (d .args .high)) (now (d .args .low)) (d .args .at) (d .args .count) _ _ _ _ _
-    (d .pre) (f .before .before .before .before .before .before .guess-size .ensures) (f .before .before .before .before .before .pack-name .ensures)
-    (f .before .before .before .before .short-figure-at .ensures) (f .before .before .short-figure-at2 .ensures) _ (f .is-framed .ensures)
-    (not-false _ (e .if1 .left)) _ (c .before .is-known .ensures (c .if2 .taken))
-
 second-hint-requires : tie.Need-second-hint-requires
 second-hint-requires c κs = search needs
 
 is-known-requires-2 : tie.Need-is-known-requires-2
 is-known-requires-2 c κs = search needs
+
+returns-2 : tie.Need-returns-2
+unfolding ReadsQuickly
+returns-2 c = tt
 
 returns-3 : tie.Need-returns-3
 unfolding ReadsQuickly
@@ -86,11 +79,18 @@ returns-3 c =
     verified (now (d .args .s)) (now (d .args .len)) (now (d .args .high)) (now (d .args .low)) (d .args .at) (d .args .count) _ _ _ _ _
     (d .pre) (f .before .before .before .before .before .before .guess-size .ensures) (f .before .before .before .before .before .pack-name .ensures)
     (f .before .before .before .before .short-figure-at .ensures) (f .before .before .short-figure-at2 .ensures) _ (f .is-framed .ensures)
-    (not-false _ (e .if1 .left)) _ (c .before .is-known2 .ensures (c .if3 .taken))
+    (not-false _ (e .if1 .left)) _ (c .before .is-known2 .ensures (not-false _ (c .if3 .left)))
 
 returns-4 : tie.Need-returns-4
 unfolding ReadsQuickly
-returns-4 c = tt
+returns-4 c =
+    let e = c .before .before .before in
+    let f = e .before .before .before in
+    let d = f .before .before .before .before .before .before .before .before in
+    verified (now (d .args .s)) (now (d .args .len)) (now (d .args .high)) (now (d .args .low)) (d .args .at) (d .args .count) _ _ _ _ _
+    (d .pre) (f .before .before .before .before .before .before .guess-size .ensures) (f .before .before .before .before .before .pack-name .ensures)
+    (f .before .before .before .before .short-figure-at .ensures) (f .before .before .short-figure-at2 .ensures) _ (f .is-framed .ensures)
+    (not-false _ (e .if1 .left)) _ (c .before .is-known .ensures (not-false _ (c .if2 .left)))
 
 pub verified-move-spec : {M : Type 1} → statement M
 verified-move-spec =
@@ -113,8 +113,8 @@ verified-move-spec =
     returns
     hint-requires
     is-known-requires
-    returns-2
     second-hint-requires
     is-known-requires-2
+    returns-2
     returns-3
     returns-4)
