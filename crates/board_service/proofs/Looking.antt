@@ -8,7 +8,7 @@ use lib.ListN.{length, getD}
 use Rattle.model.specs.Bytes.{bytes, Name, IsName}
 use Rattle.model.specs.Reading.{fail, got, litBytes, name}
 use Rattle.model.specs.Text.{eventNumber}
-use Rattle.model.specs.Sheet.{nameForm}
+use Rattle.model.proofs.BoardNames.{nameForm}
 use Rattle.model.proofs.Words.{by, done, name-sound}
 use Rattle.lexer.proofs.Answers.{GotName}
 use Rattle.lexer.proofs.Moves.{moves-literal, moves-name}
