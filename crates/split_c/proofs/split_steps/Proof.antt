@@ -231,5 +231,5 @@ split-steps-spec 𝓤 H 𝓜 𝓖 𝓡 =
     (tables 𝓤 H 𝓜 𝓡 code.env .C) (tables 𝓤 H 𝓜 𝓡 code.env .Λ) #split-c·split-steps code.function (code.unfolded 𝓤 H 𝓜 𝓡)
     (meets 𝓤 H (𝓖 .A) (givenOf 𝓤 H 𝓜 𝓖) (𝓜 .mem) (𝓡 .run) (tablesOf 𝓤 H 𝓜 (tables 𝓤 H 𝓜 𝓡 code.env)) (
       cited 𝓤 H (TheSteps 𝓤 H (𝓖 .A) (𝓜 .mem) (𝓡 .run)) 𝓜 𝓡 code.env #steps-service·steps steps-def.routine code.calls-splitter·steps (steps-thm.met 𝓤 H 𝓜 𝓖 𝓡),
-      cited 𝓤 H (TheFlat 𝓤 H (𝓖 .A) (𝓜 .mem) (𝓡 .run)) 𝓜 𝓡 code.env #flat·flat-answer flat-def.routine code.calls-split-c·flat (flat-thm.met 𝓤 H 𝓜 𝓖 𝓡),
+      cited 𝓤 H (TheFlat 𝓤 H (𝓖 .A) (𝓜 .mem) (𝓡 .run)) 𝓜 𝓡 code.env #flat·flat-answer flat-def.routine code.calls-flat·flat-answer (flat-thm.met 𝓤 H 𝓜 𝓖 𝓡),
     ))
