@@ -39,7 +39,7 @@ use Rattle.board_service.specs.declared.running.OddName.the-variants as 
 use Rattle.board_service.specs.Listed.{ReadsName}
 use Rattle.board_service.specs.Boards.{namesFrom, oddFrom, answerOf, Loaded, oddIs, FindsOdd, EndsBlocked, RunsNames}
 use Rattle.board_service.proofs.Knowing.{on-name, off-name, same-moves, on-rows}
-use Rattle.board_service.proofs.Seeking.{known-name, name-on, own-name, seek-more, seek-odd, seek-end}
+use Rattle.board_service.proofs.Seeking.{known-name, own-name, seek-more, seek-odd, seek-end}
 
 -- ---- the row of the start places
 
@@ -162,15 +162,15 @@ module _ {t : List ℕ} {machines count : ℕ} {u : Lent} {start : List ℕ} (mo
       known = subst (ReadsName t i count (u .lens) (u .highs) (u .lows)) q a
 
       pub going-low : e < count
-      going-low = known-name known .0
+      going-low = known-name known .low
 
       pub going-on : (i < next) × (next ≤ length t)
-      going-on = name-on known
+      going-on = (known-name known .later, known-name known .inside)
 
       module _ {s : Stepped} (steps : Steps (u .pre) (u .post) machines places e s) where
         module _ (b : Board) (o : Loaded b count u) (n : machines ≡ length b) where
           abbrev w : Name
-          w = known-name known .1
+          w = own-name o (known-name known .numbered) .0
 
           abbrev later : List Name × List ℕ
           later = namesFrom t next
@@ -182,7 +182,7 @@ module _ {t : List ℕ} {machines count : ℕ} {u : Lent} {start : List ℕ} (mo
           moves = moveAt (u .pre) (u .post)
 
           numbered : e ≡ eventNumber (o .told .names) w
-          numbered = own-name o w (known-name known .2)
+          numbered = own-name o (known-name known .numbered) .2
 
           on : IsOn (u .pre) (u .post) machines e
           on = on-rows (o .told) w n most e numbered going-low
@@ -190,7 +190,7 @@ module _ {t : List ℕ} {machines count : ℕ} {u : Lent} {start : List ℕ} (mo
           -- the names ahead begin with this one
           ahead : (qs : List ℕ) → runRows machines u (o .told .names) qs (namesFrom t i .0) ≡ runFrom moves (numbers machines) qs (e ∷ ds)
           ahead qs =
-              ap (λ (p : List Name × List ℕ). runRows machines u (o .told .names) qs (p .0)) (names-more t i w next (known-name known .2 .stands))
+              ap (λ (p : List Name × List ℕ). runRows machines u (o .told .names) qs (p .0)) (names-more t i w next (own-name o (known-name known .numbered) .1))
               ∙ ap (λ (x : ℕ). runFrom moves (numbers machines) qs (x ∷ ds)) (sym numbered)
 
           went : machines ≤ s .blocker → answerFrom machines u (o .told .names) b ran (take machines places) (namesFrom t i)

@@ -1,23 +1,31 @@
 -- A name of the list and its number, by the ways out of the code.
-use Prim.Native.Nat.{ℕ, _<_, _≤_}
+use Prim.Native.Nat.{ℕ, _+_, _<_, _≤_}
 use native.Mathlib.Omega.{arith}
-use mathlib.Core.Path.{_≡_, refl, ap, sym, _∙_}
+use mathlib.Core.Path.{_≡_, refl, ap, sym, _∙_, subst}
 use mathlib.Core.Logic.{inl, inr}
-use mathlib.Core.List.{List}
-use lib.ListN.{length, getD}
-use Rattle.model.specs.Bytes.{bytes, Name, IsName}
-use Rattle.model.specs.Reading.{fail, got, litBytes, name}
+use mathlib.Core.Bool.{Bool, true, _&&_}
+use mathlib.Core.List.{List, [], _∷_, _++_}
+use lib.Dec.{ltb}
+use lib.ListN.{length, getD, drop, length-drop}
+use lib.Seq.{length-take-le}
+use borrow.Author.Tests.{ltb-true}
+use Rattle.model.specs.Bytes.{bytes, isDigit, isLetter, isNameByte, Name}
+use Rattle.model.specs.Reading.{fail, got, litBytes, name, part}
 use Rattle.model.specs.Text.{eventNumber}
+use Rattle.model.proofs.Laws.{both}
 use Rattle.model.proofs.BoardNames.{nameForm}
-use Rattle.model.proofs.Words.{by, done, name-sound}
+use Rattle.model.proofs.Words.{Spans, spans-part, by, lit-complete, name-complete, name-sound}
 use Rattle.lexer.proofs.Answers.{GotName}
 use Rattle.lexer.proofs.Moves.{moves-literal, moves-name}
 use Rattle.lexer.proofs.Telling.{name-bytes}
-use Rattle.names.specs.Held.{PackedNames, Same, Finds}
-use Rattle.names.proofs.HeldNames.{entry-told}
+use Rattle.names.specs.Held.{Same, Finds}
+use Rattle.names.proofs.HeldNames.{entry-name, entry-told}
 use Rattle.names.proofs.Lookup.{own-number}
+use Rattle.quick_words.specs.Guessed.{Packs}
+use Rattle.board_service.specs.declared.name_list.QuickName.{QuickName}
+use Rattle.board_service.specs.declared.name_list.QuickName.the-variants.{Verified}
 use Rattle.board_service.specs.declared.name_list.NextName.the-variants.{Odd, Known}
-use Rattle.board_service.specs.Listed.{LooksUp, Numbered, NameFound, ReadsName}
+use Rattle.board_service.specs.Listed.{LooksUp, Numbered, KnownName, NameGuessed, NameFound, ReadsName}
 
 -- ---- looking up
 
@@ -49,7 +57,7 @@ module _ (t : List ℕ) (at : ℕ) where
   unfolding nameForm
   form-ended w m next e f = rw (e, f)
 
-  pub form-on : (w : Name) (next : ℕ) → nameForm t at ≡ got w next → (at < next) × (next ≤ length t)
+  form-on : (w : Name) (next : ℕ) → nameForm t at ≡ got w next → (at < next) × (next ≤ length t)
   unfolding nameForm
   form-on w next h =
       by (name t at) _ h λ v m e1 r1.
@@ -70,19 +78,60 @@ module _ (t : List ℕ) (at : ℕ) where
       reads-open f = record { found = inl (form-open (g .name) m (g .read) f) }
 
       module _ {next : ℕ} (f : litBytes (bytes "\n") t m ≡ got tt next) {r : ℕ} (u : LooksUp count lens highs lows n h l r) where
-        numbered : Numbered t at count lens highs lows (g .name) next r
+        numbered : Numbered t at count lens highs lows next r
         numbered =
             record {
-              stands = form-ended (g .name) m next (g .read) f;
-              number = λ ns p d. u .number ns p d (g .name) (name-sound t at (g .name) m (g .read) .0) (g .long) (g .high-is) (g .low-is);
+              number = λ ns p d. (
+                g .name,
+                form-ended (g .name) m next (g .read) f,
+                u .number ns p d (g .name) (name-sound t at (g .name) m (g .read) .0) (g .long) (g .high-is) (g .low-is),
+              );
             }
 
         pub reads-unknown : count ≤ r → ReadsName t at count lens highs lows Odd
         unfolding NameFound
         reads-unknown b =
             let z : count ≡ r = omega (arith, u .most) in
-            record { found = inr (g .name, next, record { stands = numbered .stands; number = λ ns p d. z ∙ numbered .number ns p d }) }
+            record { found = inr (next, subst (Numbered t at count lens highs lows next) (sym z) numbered) }
 
         pub reads-known : r < count → ReadsName t at count lens highs lows (Known r next)
         unfolding NameFound
-        reads-known b = record { found = (b, g .name, numbered) }
+        reads-known b =
+            let o = form-on (g .name) next (form-ended (g .name) m next (g .read) f) in
+            record { found = record { low = b; later = o .0; inside = o .1; numbered = numbered } }
+
+-- ---- a name that is verified
+
+module _ (t lens highs lows : List ℕ) (at count size h l k : ℕ) where
+  pub verified : at + 17 ≤ length t → size ≤ 16 → Packs t at size h l → (p q : Bool) → (p ≡ true → Spans t (at + size) (10 ∷ []) (at + size + 1))
+      → (q ≡ true → Same lens highs lows size h l k) → ((p && q) && ltb k count) ≡ true → KnownName t at count lens highs lows k (at + size + 1)
+  unfolding isNameByte isLetter isDigit
+  verified room most packed p q cp cq e =
+      let (e1, b) = both (p && q) (ltb k count) e in
+      let (ep, eq) = both p q e1 in
+      let c = ltb-true k count b in
+      let d : size ≤ length (drop at t) = omega (arith, length-drop at t) in
+      let z = cp ep in
+      record {
+        low = c;
+        later = omega arith;
+        inside = omega arith;
+        numbered = record {
+          number = λ ns r o.
+              let w = getD ns k [] in
+              let v : part t at size ≡ w = entry-told r k c (packed .bytes) (sym (length-take-le size (drop at t) d)) (packed .high) (packed .low) (cq eq) in
+              let y : Spans t at w (at + size) = rw v at (spans-part t at size (at + size) refl d) in
+              let x : drop at t ≡ w ++ (10 ∷ drop (at + size + 1) t) = y .bytes ∙ ap (λ (i : List ℕ). w ++ i) (z .bytes) in (
+                w,
+                form-ended t at w (at + size) (at + size + 1)
+                    (name-complete w (entry-name r k c) t at (10 ∷ drop (at + size + 1) t) tt x ∙ ap (got w) (sym (y .moved)))
+                    (lit-complete (bytes "\n") t (at + size) (drop (at + size + 1) t) (z .bytes)),
+                sym (own-number ns k (omega (arith, r .counted)) o),
+              );
+        };
+      }
+
+pub quick-known : {t : List ℕ} {at count : ℕ} {lens highs lows : List ℕ} {r : QuickName} → NameGuessed t at count lens highs lows r → {e next : ℕ} → r ≡ Verified e next
+    → ReadsName t at count lens highs lows (Known e next)
+unfolding NameGuessed NameFound
+quick-known {t} {at} {count} {lens} {highs} {lows} a q = record { found = subst (NameGuessed t at count lens highs lows) q a }

@@ -21,9 +21,8 @@ use Rattle.sheet_reader.specs.Lent.{Lent, lentRows}
 use Rattle.board_service.specs.declared.name_list.NextName.{NextName}
 use Rattle.board_service.specs.declared.name_list.NextName.the-variants.{Odd, Known}
 use Rattle.board_service.specs.declared.running.OddName.the-variants as O
-use Rattle.board_service.specs.Listed.{Numbered, NameFound, ReadsName}
+use Rattle.board_service.specs.Listed.{Numbered, KnownName, NameFound, ReadsName}
 use Rattle.board_service.specs.Boards.{namesFrom, oddFrom, Loaded, oddIs, FindsOdd}
-use Rattle.board_service.proofs.Looking.{form-on}
 use Rattle.board_service.proofs.Knowing.{on-name, off-name}
 
 module _ (b : Board) (k : ℕ) where
@@ -48,32 +47,31 @@ module _ (b : Board) (k : ℕ) where
 -- ---- the name at a position
 
 module _ {t : List ℕ} {at count : ℕ} {lens highs lows : List ℕ} where
-  pub known-name : {e next : ℕ} → ReadsName t at count lens highs lows (Known e next) → (e < count) × (w : Name) × Numbered t at count lens highs lows w next e
+  pub known-name : {e next : ℕ} → ReadsName t at count lens highs lows (Known e next) → KnownName t at count lens highs lows e next
   unfolding NameFound
   known-name r = r .found
 
-  pub name-on : {e next : ℕ} → ReadsName t at count lens highs lows (Known e next) → (at < next) × (next ≤ length t)
-  name-on {next = next} r = let (h, w, n) = known-name r in form-on t at w next (n .stands)
-
   module _ {b : Board} {pre post : List ℕ} (o : Loaded b count (lentRows lens highs lows pre post)) where
-    -- the number that the rows have for it
-    pub own-name : (w : Name) {next e : ℕ} → Numbered t at count lens highs lows w next e → e ≡ eventNumber (o .told .names) w
-    own-name w n = n .number (o .told .names) (o .told .held .packed) (o .told .held .once)
+    -- the name, and the number that the rows have for it
+    pub own-name : {next e : ℕ} → Numbered t at count lens highs lows next e → (w : Name) × (nameForm t at ≡ got w next) × (e ≡ eventNumber (o .told .names) w)
+    own-name n = n .number (o .told .names) (o .told .held .packed) (o .told .held .once)
 
     module _ (k : ℕ) where
       pub seek-more : {e next : ℕ} → ReadsName t at count lens highs lows (Known e next) → oddFrom b k (namesFrom t at) ≡ oddFrom b (k + 1) (namesFrom t next)
       seek-more {next = next} r =
-          let (h, w, n) = known-name r in
-          ap (oddFrom b k) (names-more t at w next (n .stands)) ∙ odd-more b k w (namesFrom t next) (on-name (o .told) w (omega (arith, h, own-name w n)))
+          let n = known-name r in
+          let (w, h, q) = own-name (n .numbered) in
+          ap (oddFrom b k) (names-more t at w next h) ∙ odd-more b k w (namesFrom t next) (on-name (o .told) w (omega (arith, n .low, q)))
 
       pub seek-odd : at < length t → ReadsName t at count lens highs lows Odd → oddFrom b k (namesFrom t at) ≡ some k
       unfolding NameFound
       seek-odd h r = go (r .found)
         where
-          go : (nameForm t at ≡ fail) ⊎ ((w : Name) × (next : ℕ) × Numbered t at count lens highs lows w next count) → oddFrom b k (namesFrom t at) ≡ some k
+          go : (nameForm t at ≡ fail) ⊎ ((next : ℕ) × Numbered t at count lens highs lows next count) → oddFrom b k (namesFrom t at) ≡ some k
           go (inl f) = odd-now b k (namesFrom t at) (names-odd t at (o .sheet) b (o .says) f (λ z. omega (arith, h, ap length z, length-drop at t)))
-          go (inr (w, next, n)) =
-              ap (oddFrom b k) (names-more t at w next (n .stands)) ∙ odd-first b k w (namesFrom t next) (off-name (o .told) w (omega (arith, own-name w n)))
+          go (inr (next, n)) =
+              let (w, f, q) = own-name n in
+              ap (oddFrom b k) (names-more t at w next f) ∙ odd-first b k w (namesFrom t next) (off-name (o .told) w (omega (arith, q)))
 
 pub seek-end : {b : Board} {count : ℕ} {u : Lent} → Loaded b count u → (t : List ℕ) (at k : ℕ) → length t ≤ at → oddFrom b k (namesFrom t at) ≡ none
 unfolding oddFrom every isEmpty
@@ -99,7 +97,7 @@ module _ {t : List ℕ} {at before count : ℕ} {lens highs lows : List ℕ} whe
 
     module _ {r : NextName} (a : ReadsName t i count lens highs lows r) {e next : ℕ} (q : r ≡ Known e next) where
       pub seeking-on : (i < next) × (next ≤ length t)
-      seeking-on = name-on (subst (ReadsName t i count lens highs lows) q a)
+      seeking-on = let n = known-name (subst (ReadsName t i count lens highs lows) q a) in (n .later, n .inside)
 
       pub seeking-more : Seeking t at before count lens highs lows (k + 1) next
       seeking-more =

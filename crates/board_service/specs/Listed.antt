@@ -11,6 +11,8 @@ use Rattle.model.specs.Text.{eventNumber, distinct}
 use Rattle.model.proofs.BoardNames.{nameForm}
 use Rattle.lexer.specs.Words as Words
 use Rattle.names.specs.Held.{PackedNames}
+use Rattle.board_service.specs.declared.name_list.QuickName.{QuickName}
+use Rattle.board_service.specs.declared.name_list.QuickName.the-variants.{Unknown, Verified}
 use Rattle.board_service.specs.declared.name_list.NextName.{NextName}
 use Rattle.board_service.specs.declared.name_list.NextName.the-variants.{Odd, Known}
 
@@ -20,14 +22,25 @@ pub record LooksUp (count : ℕ) (lens highs lows : List ℕ) (n h l r : ℕ) : 
   pub number : (ns : List Name) → PackedNames ns count lens highs lows → T (distinct ns) → (e : Name) → IsName e → n ≡ length e → h ≡ Words.high e → l ≡ Words.low e
       → r ≡ eventNumber ns e
 
--- the name w stands at a position, and r is its number
-pub record Numbered (t : List ℕ) (at count : ℕ) (lens highs lows : List ℕ) (w : Name) (next r : ℕ) : Type 0 where
-  pub stands : nameForm t at ≡ got w next
-  pub number : (ns : List Name) → PackedNames ns count lens highs lows → T (distinct ns) → r ≡ eventNumber ns w
+-- a name stands at a position, `next` is the position after its byte 10, and r is its number in rows that hold each name once
+pub record Numbered (t : List ℕ) (at count : ℕ) (lens highs lows : List ℕ) (next r : ℕ) : Type 0 where
+  pub number : (ns : List Name) → PackedNames ns count lens highs lows → T (distinct ns) → (w : Name) × (nameForm t at ≡ got w next) × (r ≡ eventNumber ns w)
+
+-- a known name
+pub record KnownName (t : List ℕ) (at count : ℕ) (lens highs lows : List ℕ) (e next : ℕ) : Type 0 where
+  pub low : e < count
+  pub later : at < next
+  pub inside : next ≤ length t
+  pub numbered : Numbered t at count lens highs lows next e
+
+-- a name that was guessed may be anything
+unfoldable pub NameGuessed : List ℕ → ℕ → ℕ → List ℕ → List ℕ → List ℕ → QuickName → Type 0
+NameGuessed t at count lens highs lows Unknown = Unit {0}
+NameGuessed t at count lens highs lows (Verified e next) = KnownName t at count lens highs lows e next
 
 unfoldable pub NameFound : List ℕ → ℕ → ℕ → List ℕ → List ℕ → List ℕ → NextName → Type 0
-NameFound t at count lens highs lows Odd = (nameForm t at ≡ fail) ⊎ ((w : Name) × (next : ℕ) × Numbered t at count lens highs lows w next count)
-NameFound t at count lens highs lows (Known e next) = (e < count) × (w : Name) × Numbered t at count lens highs lows w next e
+NameFound t at count lens highs lows Odd = (nameForm t at ≡ fail) ⊎ ((next : ℕ) × Numbered t at count lens highs lows next count)
+NameFound t at count lens highs lows (Known e next) = KnownName t at count lens highs lows e next
 
 pub record ReadsName (t : List ℕ) (at count : ℕ) (lens highs lows : List ℕ) (r : NextName) : Type 0 where
   pub found : NameFound t at count lens highs lows r

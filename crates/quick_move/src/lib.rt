@@ -7,7 +7,6 @@ ghost use Rattle.model.specs.Bytes.{bytes};
 ghost use Rattle.model.proofs.Words.{Spans};
 ghost use Rattle.names.specs.Held.{Same};
 ghost use Rattle.quick_move.specs.Quick.{ReadsQuickly, Framed};
-use guess::guess_size;
 use model::MAX_EVENTS;
 use names::HINTS;
 use names::hint;
@@ -15,11 +14,10 @@ use names::is_name_at;
 use names::second_hint;
 use quick_words::big_endian;
 use quick_words::first_bytes;
+use quick_words::guess_size;
 use quick_words::is_byte;
 use quick_words::pack_name;
 use quick_words::short_figure_at;
-
-mod guess; // where the name ends, by bit tricks
 
 // A move, verified; or nothing is known of it.
 pub enum QuickMove {
@@ -80,7 +78,7 @@ fn verified_move<'a>(
     ensures { λ r. ⌜ ReadsQuickly (now (s .entry)) at count (now («len» .entry)) (now («high» .entry)) (now («low» .entry)) r ⌝ }
 {
     let from = at + 7;
-    let size = guess_size(s, from);
+    let size = guess_size(s, from, b' ');
     let name = pack_name(s, from, size);
     let to = from + size;
     let a = short_figure_at(s, to + 1);

@@ -67,6 +67,39 @@ pub fn low_zero_bytes(word: u64) -> usize
     (u64::trailing_zeros(word) / 8) as usize
 }
 
+// The bytes of a word in the other order. The compiler makes one instruction of it, and one load of a word that is wanted in both orders.
+fn swap_bytes(word: u64) -> u64 {
+    let low = (word >> 56)
+        | ((word >> 40) & 0xff00)
+        | ((word >> 24) & 0xff_0000)
+        | ((word >> 8) & 0xff00_0000);
+    let high = (word << 56)
+        | ((word << 40) & 0xff_0000_0000_0000)
+        | ((word << 24) & 0xff00_0000_0000)
+        | ((word << 8) & 0xff_0000_0000);
+    low | high
+}
+
+// How many of a word's bytes, from the lowest on, stand before a byte b.
+fn count_to(word: u64, b: u8) -> usize
+    ensures { λ r. ⌜ r ≤ 8 ⌝ }
+{
+    // the byte b is 0 in x, the first to borrow
+    let x = word ^ (byte_word(b) * 0x0101_0101_0101_0101);
+    let borrowed = std::num::wrapping_sub_u64(x, 0x0101_0101_0101_0101);
+    low_zero_bytes(borrowed & !x & 0x8080_8080_8080_8080)
+}
+
+// How many bytes, at most 16, are guessed to stand from a position on before a byte b. Nothing is proved of it but that it stays in range.
+pub fn guess_size(s: &[u8], at: usize, b: u8) -> usize
+    requires { ⌜ at + 16 ≤ length (now s) ⌝ }
+    ensures { λ r. ⌜ r ≤ 16 ⌝ }
+{
+    let first = count_to(swap_bytes(big_endian(s, at)), b);
+    let second = count_to(swap_bytes(big_endian(s, at + 8)), b);
+    if first == 8 { 8 + second } else { first }
+}
+
 // The first bytes of a word of eight.
 pub fn first_bytes(word: u64, count: usize) -> u64
     requires { ⌜ count ≤ 8 ⌝ }

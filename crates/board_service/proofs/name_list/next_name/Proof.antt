@@ -1,72 +1,46 @@
--- `board_service::name_list::next_name` meets its contract: one law of `Looking` for each way out.
-use mathlib.Core.Path.{_≡_}
-use denote.Ref.{now}
-use Rattle.model.specs.Bytes.{bytes}
-use Rattle.model.specs.Reading.{got, litBytes, name}
-use Rattle.lexer.proofs.Answers.{GotName, name-missing, name-got, literal-missing, literal-got}
-use Rattle.board_service.proofs.Looking.{reads-missing, reads-open, reads-unknown, reads-known}
+-- `board_service::name_list::next_name` meets its contract: the law is in `Looking`.
+use Rattle.board_service.proofs.Looking.{quick-known}
 use borrow.Author.Needs.{needs}
 use Rattle.board_service.proofs.name_list.next_name.Statement.{statement}
 use Rattle.board_service.proofs.name_list.next_name.Tie as tie
 
--- the name that is read, and the byte after it
-word : (c : tie.After-known-told)
-    → let g = c .before .n .given .0 in
-    GotName (name (now (c .before .before .before .before .before .args .names)) (c .before .before .before .before .before .args .at)) (g .0) (g .1 .0) (g .1 .1 .0) (g .1 .1 .1 .0)
-word c = name-got _ (c .before .before .before .read-name .ensures) (c .before .n .given .1)
+sub-if1 : tie.Need-sub-if1
+sub-if1 c = search needs
 
-ended : (c : tie.After-known-told2) → litBytes (bytes "\n") (now (c .before .before .before .before .before .before .before .before .before .before .args .names)) (c .before .before .before .before .before .before .n .given .0 .1 .1 .1 .0) ≡ got tt (c .before .next .given .0 .1 .0)
-ended c = literal-got _ (c .before .before .before .read-literal .ensures) (c .before .next .given .1)
+read-words-requires : tie.Need-read-words-requires
+read-words-requires c κs = search needs
 
-read-name-requires : tie.Need-read-name-requires
-read-name-requires c κs = search needs
+returns : tie.Need-returns
+returns c = search needs
 
-enum-known-n : tie.Need-enum-known-n
-enum-known-n c = search needs
+verified-name-requires : tie.Need-verified-name-requires
+verified-name-requires c κs = search needs
+
+enum-known-event : tie.Need-enum-known-event
+enum-known-event c = search needs
 
 enum-told : tie.Need-enum-told
 enum-told c = search needs
 
-returns : tie.Need-returns
-returns c = reads-missing _ _ (name-missing _ (c .before .before .read-name .ensures) (c .enum-told .given .1))
-
-slice-aggregate-read-literal : tie.Need-slice-aggregate-read-literal
-slice-aggregate-read-literal c = search needs
-
-read-literal-requires : tie.Need-read-literal-requires
-read-literal-requires c κs = search needs
-
-enum-known-next : tie.Need-enum-known-next
-enum-known-next c = search needs
-
-enum-told-2 : tie.Need-enum-told-2
-enum-told-2 c = search needs
+read-words-requires-2 : tie.Need-read-words-requires-2
+read-words-requires-2 c κs = search needs
 
 returns-2 : tie.Need-returns-2
-returns-2 c = reads-open _ _ (word (c .before .before .before .before)) (literal-missing _ (c .before .before .read-literal .ensures) (c .enum-told2 .given .1))
-
-look-up-requires : tie.Need-look-up-requires
-look-up-requires c κs = search needs
+returns-2 c = search needs
 
 returns-3 : tie.Need-returns-3
-returns-3 c = reads-unknown _ _ (word (c .before .before .before .before .before .before .before)) (ended (c .before .before)) (c .before .look-up .ensures) (c .if1 .taken)
-
-returns-4 : tie.Need-returns-4
-returns-4 c = reads-known _ _ (word (c .before .before .before .before .before .before .before)) (ended (c .before .before)) (c .before .look-up .ensures) (c .if1 .left)
+returns-3 c = quick-known (c .before .before .before .verified-name .ensures) (c .before .event .given .1)
 
 pub next-name-spec : {M : Type 1} → statement M
 next-name-spec =
     tie.close
     (tie.spec
-    read-name-requires
-    enum-known-n
-    enum-told
+    sub-if1
+    read-words-requires
     returns
-    slice-aggregate-read-literal
-    read-literal-requires
-    enum-known-next
-    enum-told-2
+    verified-name-requires
+    enum-known-event
+    enum-told
+    read-words-requires-2
     returns-2
-    look-up-requires
-    returns-3
-    returns-4)
+    returns-3)
