@@ -14,5 +14,7 @@ pub mod Saying
 pub mod Rows
 -- words in one row of bytes
 pub mod Cutting
+-- each word ended by byte 0, or by byte 10
+pub mod Ending
 -- the events that they say, in the same row
 pub mod Taking

@@ -15,7 +15,7 @@ use Rattle.lexer.specs.declared.Word.{Word}
 use Rattle.lexer.specs.declared.Word.the-variants.{Missing, Found}
 use Rattle.lexer.proofs.Answers.{literal-missing, literal-got}
 use Rattle.command_line.specs.declared.Service.{Service}
-use Rattle.command_line.specs.declared.Service.the-variants.{Check, Steps, Name, Run, Thin, Help, Explain, Unknown}
+use Rattle.command_line.specs.declared.Service.the-variants.{Check, Steps, Name, Run, Thin, Sheet, Board, Help, Explain, Unknown}
 use Rattle.command_line.specs.Words.{sameWord, serviceSaid}
 
 -- ---- the same bytes
@@ -65,8 +65,14 @@ module _ (w : List ℕ) where
   abbrev pub past-help : Service
   past-help = cond (sameWord w (bytes "explain")) Explain Unknown
 
+  abbrev pub past-board : Service
+  past-board = cond (sameWord w (bytes "help")) Help past-help
+
+  abbrev pub past-sheet : Service
+  past-sheet = cond (sameWord w (bytes "board")) Board past-board
+
   abbrev pub past-thin : Service
-  past-thin = cond (sameWord w (bytes "help")) Help past-help
+  past-thin = cond (sameWord w (bytes "sheet")) Sheet past-sheet
 
   abbrev pub past-run : Service
   past-run = cond (sameWord w (bytes "thin")) Thin past-thin

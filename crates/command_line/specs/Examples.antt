@@ -1,4 +1,4 @@
--- What the program answers on the plan Y, by computation.
+-- What the program answers on the plan Y and on its sheet, by computation.
 use mathlib.Core.Path.{_≡_, refl}
 use mathlib.Core.List.{List, [], _∷_, flatMap, flatten}
 use mathlib.Core.Option.{none, some, orElse}
@@ -11,10 +11,12 @@ use Rattle.model.specs.Machine.{placeIn, places, crosses, move, duplicateState,
 use Rattle.model.specs.Bytes.{bytes, isDigit, isLetter, isNameByte, isFigure, isName, digits, numeral, numeralUpTo}
 use Rattle.model.specs.Form.{written, isMachineLine, isStepLine, statesLine, spacedName, eventsLine, stepLine, spacedFigure, place, machineLine, lineAfter}
 use Rattle.model.specs.Text.{eventNumber, valueOf, distinct, inLimit, isDeclared, ended, lineThen, linesFrom, read, nameAt}
-use Rattle.model.specs.Sheet.{addMove, movesBelow, sheetLine, sheetLines, moveBytes, writtenMove, writtenLine, writtenCount, writtenSheet, boardOf, sheet}
-use Rattle.model.specs.Printed.{printedBy, fitting, spaced, printedCheck, nameLine, printedName, ranWord, placesWord, ranLine, printedRun}
+use Rattle.model.specs.Sheet.{addMove, movesBelow, sheetLine, sheetLines, moveBytes, writtenMove, writtenLine, writtenCount, writtenSheet, boardOf, sheet, countForm, moveForm, lineForm}
+use Rattle.model.specs.Board.{isGoodMove, addName, addNames, namesOn, isGoodLine, machineThen, machinesFrom, countThen, readSheet, moveOn, startPlaces, splitNames, runNames}
+use Rattle.model.specs.Printed.{printedBy, fitting, spaced, printedCheck, nameLine, printedName, ranWord, placesWord, ranLine, printedRun, printedSheet, printedBoard}
 use Rattle.model.specs.Services.{asFarAs7, asFarAs10, asFarAs12, name, runEvents, printed, writtenAnswer, writtenRefusal}
 use Rattle.model.specs.Examples.{Y, Y0, Y1}
+use Rattle.model.specs.BoardExamples.{ySheet}
 use Rattle.command_line.specs.Words.{serviceSaid, isNumeral, isNameWord, numberSaid, eventSaid}
 use Rattle.command_line.specs.WordRow.{begunBy, wordsIn}
 use Rattle.command_line.specs.Program.{sizeSaid, oneEventSaid, before, eventsSaid, namesOf, answerBy, answerTo}
@@ -38,6 +40,22 @@ unfolding exists every first index count satisfying isSome isEmpty numbers elem 
     printedName ranWord placesWord ranLine printedRun asFarAs7 asFarAs10 asFarAs12 name runEvents printed writtenAnswer writtenRefusal serviceSaid isNumeral
     isNameWord numberSaid eventSaid sizeSaid oneEventSaid before eventsSaid namesOf answerBy answerTo
 answers-on-y = record { no-word = refl; short = refl; named = refl; ran = refl; two-names = refl; capitals = refl }
+
+pub record AnswersOnSheet (y : List ℕ) : Type 0 where
+  pub short : answerTo (bytes "sheet" ∷ bytes "144" ∷ []) y ≡ some (bytes "(refused 13 145 0)\n")
+  pub ran : answerTo (bytes "board" ∷ bytes "ready" ∷ bytes "brake" ∷ []) y ≡ some (bytes "(whole (places 1 1))\n")
+  pub blocked : answerTo (bytes "board" ∷ bytes "ready" ∷ bytes "ready" ∷ []) y ≡ some (bytes "(blocked 1 0 (places 1 0))\n")
+  pub no-name : answerTo (bytes "board" ∷ bytes "ready" ∷ bytes "1" ∷ []) y ≡ some (bytes "(refused 14 1 0)\n")
+  pub two-sizes : answerTo (bytes "sheet" ∷ bytes "1" ∷ bytes "2" ∷ []) y ≡ none
+  -- a text is no sheet
+  pub text : answerTo (bytes "board" ∷ []) (bytes Y) ≡ some (bytes "(refused 15 1 0)\n")
+
+pub answers-on-sheet : AnswersOnSheet (bytes ySheet)
+unfolding exists every first index isSome isEmpty flatMap flatten moveFrom both oneMore inAlphabet effective fire fireAll productStep blocker runFrom isDigit isLetter
+    isNameByte isFigure isName digits numeral numeralUpTo distinct moveBytes writtenMove writtenLine writtenCount writtenSheet countForm moveForm lineForm isGoodMove
+    addName addNames namesOn isGoodLine machineThen machinesFrom countThen readSheet moveOn startPlaces splitNames runNames printedBy fitting spaced ranWord placesWord
+    ranLine printedSheet printedBoard writtenRefusal serviceSaid isNumeral numberSaid sizeSaid answerBy answerTo
+answers-on-sheet = record { short = refl; ran = refl; blocked = refl; no-name = refl; two-sizes = refl; text = refl }
 
 -- a row of three words, the second empty, the last with no byte 0 behind it
 pub three-words : wordsIn (97 ∷ 98 ∷ 0 ∷ 0 ∷ 99 ∷ []) ≡ (97 ∷ 98 ∷ []) ∷ [] ∷ (99 ∷ []) ∷ []

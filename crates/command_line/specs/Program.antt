@@ -1,14 +1,15 @@
--- What the program answers to its words, those after its own name, and the text on its standard input. Document 01 leaves this to the program, so all of it is believed.
+-- What the program answers to its words, those after its own name, and the text, or the sheet, on its standard input. Document 01 leaves this to the program, so all of it is believed.
 use Prim.Native.Nat.{ℕ}
-use mathlib.Core.List.{List, [], _∷_}
+use mathlib.Core.List.{List, [], _∷_, flatMap}
 use mathlib.Core.Option.{Option, none, some, Option·map}
 use Rattle.model.specs.Refusal.{Checked, refused, passed}
 use Rattle.model.specs.Bytes as B
 use Rattle.model.specs.Text.{Input}
 use Rattle.model.specs.Services.{asFarAs7, printed}
-use Rattle.model.specs.Printed.{printedCheck, printedSteps, printedName, printedRun, printedThin}
+use Rattle.model.specs.BoardTable.{ended}
+use Rattle.model.specs.Printed.{printedCheck, printedSteps, printedName, printedRun, printedThin, printedSheet, printedBoard}
 use Rattle.command_line.specs.declared.Service.{Service}
-use Rattle.command_line.specs.declared.Service.the-variants.{Check, Steps, Name, Run, Thin, Help, Explain, Unknown}
+use Rattle.command_line.specs.declared.Service.the-variants.{Check, Steps, Name, Run, Thin, Sheet, Board, Help, Explain, Unknown}
 use Rattle.command_line.specs.Words.{serviceSaid, numberSaid, eventSaid}
 
 -- the size that a word says, or the usual one where there is no word
@@ -49,6 +50,8 @@ answerBy Steps ws s = Option·map (printedSteps s) (sizeSaid 1024 ws)
 answerBy Name ws s = Option·map (printedName s) (oneEventSaid (namesOf (asFarAs7 s)) ws)
 answerBy Run ws s = Option·map (printedRun s) (eventsSaid (namesOf (asFarAs7 s)) ws)
 answerBy Thin ws s = answerThin ws s
+answerBy Sheet ws s = Option·map (printedSheet s) (sizeSaid 32768 ws)
+answerBy Board ws s = some (printedBoard s (flatMap ended ws))
 answerBy Help ws s = none
 answerBy Explain ws s = none
 answerBy Unknown ws s = none

@@ -23,6 +23,10 @@ abbrev pub rowOf : List (List ℕ) → List ℕ
 rowOf [] = []
 rowOf (w ∷ ws) = w ++ (0 ∷ rowOf ws)
 
+-- each word of the row is ended by byte 0
+pub record EachEnded (row : List ℕ) : Type 0 where
+  pub rebuilt : rowOf (wordsIn row) ≡ row
+
 -- the word that begins at `at` ends before `end`, and the others begin after it
 pub record WordCut (s : List ℕ) (at end : ℕ) : Type 0 where
   pub least : at ≤ end

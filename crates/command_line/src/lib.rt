@@ -1,13 +1,17 @@
 // The words of a command line: the service that is asked for, and the number or the event that a word says.
 ghost use mathlib.Core.Path.{_≡_};
+ghost use mathlib.Core.Bool.{cond};
+ghost use mathlib.Core.List.{flatMap};
 ghost use mathlib.Core.Option.{some};
 ghost use Prim.Native.Nat.{ℕ, _≤_, _<_};
+ghost use lib.Dec.{eqb};
 ghost use lib.ListN.{length, drop};
 ghost use Rattle.model.specs.Bytes.{sameName};
+ghost use Rattle.model.specs.BoardTable.{ended};
 ghost use Rattle.model.specs.Text.{eventNumber};
 ghost use Rattle.rows.specs.Names.{namesIn};
 ghost use Rattle.command_line.specs.Words.{sameWord, serviceSaid, isNameWord, said, eventSaid};
-ghost use Rattle.command_line.specs.WordRow.{wordsIn, WordCut, BeginsAt, Lists};
+ghost use Rattle.command_line.specs.WordRow.{wordsIn, EachEnded, WordCut, BeginsAt, Lists};
 ghost use Rattle.command_line.specs.Program.{serviceAsked, furtherWords, sizeSaid, oneEventSaid, eventsSaid};
 ghost use Rattle.command_line.specs.Names.{NameRows};
 use lexer::NameWord;
@@ -26,6 +30,8 @@ pub enum Service {
     Name,
     Run,
     Thin,
+    Sheet,
+    Board,
     Help,
     Explain,
     Unknown,
@@ -74,6 +80,12 @@ fn service_said(word: &[u8]) -> Service
     }
     if same_word(word, b"thin") {
         return Service::Thin;
+    }
+    if same_word(word, b"sheet") {
+        return Service::Sheet;
+    }
+    if same_word(word, b"board") {
+        return Service::Board;
     }
     if same_word(word, b"help") {
         return Service::Help;
@@ -252,4 +264,25 @@ pub fn events_said<'a>(
         at = end + 1;
     }
     Said::Number(n)
+}
+
+fn name_byte(byte: u8) -> u8
+    ensures { λ r. ⌜ r ≡ cond (eqb byte 0) 10 byte ⌝ }
+{
+    if byte == 0 {
+        return b'\n';
+    }
+    byte
+}
+
+// The words as a list of names, each ended by byte 10, in their own row.
+pub fn names_said(words: &mut [u8])
+    requires { ⌜ EachEnded (now words) ⌝ }
+    ensures { λ _. ⌜ now (words .exit) ≡ flatMap ended (wordsIn (now (words .entry))) ⌝ }
+{
+    let mut i = 0;
+    while i < words.len() {
+        words[i] = name_byte(words[i]);
+        i += 1;
+    }
 }

@@ -3,14 +3,15 @@ use Prim.Native.Nat.{ℕ, zero, suc, _+_, _<_, min}
 use native.Mathlib.Omega.{arith}
 use mathlib.Core.Path.{_≡_, refl, ap, sym, _∙_}
 use mathlib.Core.Bool.{Bool, true, false, cond, _||_}
-use mathlib.Core.List.{List, [], _∷_}
+use mathlib.Core.List.{List, [], _∷_, flatMap}
 use mathlib.Core.Option.{Option, none, some, Option·map, Option·some-ne-none}
 use borrow.Author.Tests.{ne-eqb, le-leb}
 use lib.Dec.{eqb}
 use Rattle.model.specs.Bytes.{Name, decimal}
 use Rattle.model.specs.Text.{eventNumber}
 use Rattle.model.specs.Services.{asFarAs7}
-use Rattle.model.specs.Printed.{printedCheck, printedSteps, printedName, printedRun, printedThin}
+use Rattle.model.specs.BoardTable.{ended}
+use Rattle.model.specs.Printed.{printedCheck, printedSteps, printedName, printedRun, printedThin, printedSheet, printedBoard}
 use Rattle.command_line.specs.declared.Service.{Service}
 use Rattle.command_line.specs.declared.Service.the-variants as S
 use Rattle.replies.specs.declared.Reply.{Reply}
@@ -87,6 +88,12 @@ unfolding answerThin wrongFrom takes leastWords
 thin-judged [] s = right (printedThin s) refl refl
 thin-judged (w ∷ ws) s = not-right refl (omega arith)
 
+-- any words
+board-judged : (k : ℕ) (ws : List (List ℕ)) → wrongFrom S.Board k ws ≡ 0
+unfolding wrongFrom takes leastWords
+board-judged k [] = rw (le-leb 0 k (omega arith))
+board-judged k (w ∷ ws) = board-judged (k + 1) ws
+
 -- ---- all words
 
 no-help : (ws : List (List ℕ)) → helpAsked ws ≡ R.Service → ⊥
@@ -107,6 +114,8 @@ judged S.Steps ws s e = mapped (printedSteps s) (size-judged S.Steps (λ w. refl
 judged S.Name ws s e = mapped (printedName s) (name-judged (namesOf (asFarAs7 s)) ws)
 judged S.Run ws s e = mapped (printedRun s) (run-judged (namesOf (asFarAs7 s)) 0 ws)
 judged S.Thin ws s e = thin-judged ws s
+judged S.Sheet ws s e = mapped (printedSheet s) (size-judged S.Sheet (λ w. refl) (λ k w. rw (ne-eqb (suc k) 0 (λ z. omega arith))) refl 32768 ws)
+judged S.Board ws s e = right (printedBoard s (flatMap ended ws)) refl (board-judged 0 ws)
 judged S.Help ws s e = absurd (no-help ws e)
 judged S.Explain ws s e = absurd (no-explanation ws e)
 judged S.Unknown ws s e = not-right refl (omega arith)
@@ -151,6 +160,8 @@ unserved (w ∷ ws) s h = go (serviceSaid w) h
     go S.Name n = said-nothing (judged S.Name ws s refl) (λ z. n (as-right _ z))
     go S.Run n = said-nothing (judged S.Run ws s refl) (λ z. n (as-right _ z))
     go S.Thin n = said-nothing (judged S.Thin ws s refl) (λ z. n (as-right _ z))
+    go S.Sheet n = said-nothing (judged S.Sheet ws s refl) (λ z. n (as-right _ z))
+    go S.Board n = said-nothing (judged S.Board ws s refl) (λ z. n (as-right _ z))
     go S.Help n = refl
     go S.Explain n = refl
     go S.Unknown n = refl

@@ -24,6 +24,8 @@ pub record RepliesToWords : Type 0 where
   pub no-event : replyAsked (bytes "run" ∷ bytes "ready" ∷ bytes "Brake" ∷ []) ≡ R.Usage 3
   pub first-of-two : replyAsked (bytes "run" ∷ bytes "Ready" ∷ bytes "Brake" ∷ []) ≡ R.Usage 2
   pub each-name : map refusalSaid refusalNames ≡ 1 ∷ 2 ∷ 3 ∷ 4 ∷ 5 ∷ 6 ∷ 7 ∷ 8 ∷ 9 ∷ 10 ∷ 11 ∷ 12 ∷ 13 ∷ 14 ∷ 15 ∷ []
+  pub no-size : replyAsked (bytes "sheet" ∷ bytes "ready" ∷ []) ≡ R.Usage 2
+  pub any-name : replyAsked (bytes "board" ∷ bytes "Ready" ∷ [] ∷ []) ≡ R.Service
   pub served : replyAsked (bytes "run" ∷ bytes "ready" ∷ bytes "1" ∷ []) ≡ R.Service
 
 pub replies : RepliesToWords
@@ -46,5 +48,7 @@ replies =
       no-event = refl;
       first-of-two = refl;
       each-name = refl;
+      no-size = refl;
+      any-name = refl;
       served = refl;
     }

@@ -5,7 +5,7 @@ use mathlib.Core.List.{List, [], _∷_}
 use lib.Dec.{leb, eqb}
 use Rattle.model.specs.Bytes.{bytes, decimal}
 use Rattle.command_line.specs.declared.Service.{Service}
-use Rattle.command_line.specs.declared.Service.the-variants.{Check, Steps, Name, Run, Thin, Help, Explain, Unknown}
+use Rattle.command_line.specs.declared.Service.the-variants.{Check, Steps, Name, Run, Thin, Sheet, Board, Help, Explain, Unknown}
 use Rattle.replies.specs.declared.Reply.{Reply}
 use Rattle.replies.specs.declared.Reply.the-variants as R
 use Rattle.command_line.specs.Words.{sameWord, isNumeral, isNameWord}
@@ -52,13 +52,15 @@ saysEvent w = isNameWord w || isNumeral w
 unfoldable pub takesAfterExplain : ℕ → List ℕ → Bool
 takesAfterExplain k w = cond (eqb k 0) (leb 1 (refusalSaid w)) (leb k 2 && isNumeral w)
 
--- whether the service takes this as the kth word after it, counted from 0
+-- whether the service takes this as the kth word after it, counted from 0; a board is handed any word, and refuses by 14 what it does not know
 unfoldable pub takes : Service → ℕ → List ℕ → Bool
 takes Check k w = eqb k 0 && isNumeral w
 takes Steps k w = eqb k 0 && isNumeral w
 takes Name k w = eqb k 0 && saysEvent w
 takes Run k w = saysEvent w
 takes Thin k w = false
+takes Sheet k w = eqb k 0 && isNumeral w
+takes Board k w = true
 takes Help k w = eqb k 0 && sameWord w (bytes "text")
 takes Explain k w = takesAfterExplain k w
 takes Unknown k w = false
@@ -70,6 +72,8 @@ leastWords Steps = 0
 leastWords Name = 1
 leastWords Run = 0
 leastWords Thin = 0
+leastWords Sheet = 0
+leastWords Board = 0
 leastWords Help = 0
 leastWords Explain = 1
 leastWords Unknown = 0
@@ -85,6 +89,8 @@ isUnknown Steps = false
 isUnknown Name = false
 isUnknown Run = false
 isUnknown Thin = false
+isUnknown Sheet = false
+isUnknown Board = false
 isUnknown Help = false
 isUnknown Explain = false
 isUnknown Unknown = true
@@ -108,6 +114,8 @@ replyBy Steps ws = R.Service
 replyBy Name ws = R.Service
 replyBy Run ws = R.Service
 replyBy Thin ws = R.Service
+replyBy Sheet ws = R.Service
+replyBy Board ws = R.Service
 replyBy Help ws = helpAsked ws
 replyBy Explain ws = explanationAsked ws
 replyBy Unknown ws = R.Usage 1

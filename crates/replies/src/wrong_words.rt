@@ -78,7 +78,7 @@ fn takes_after_explain(k: usize, word: &[u8]) -> bool
     (k <= 2) & is_numeral(word)
 }
 
-// Does the service take this as the kth word after it, counted from 0.
+// Does the service take this as the kth word after it, counted from 0. A board is handed any word.
 fn takes(asked: Service, k: usize, word: &[u8]) -> bool
     ensures { λ r. ⌜ r ≡ takes asked k (now (word .entry)) ⌝ }
 {
@@ -89,6 +89,8 @@ fn takes(asked: Service, k: usize, word: &[u8]) -> bool
         Service::Run => says_event(word),
         Service::Help => (k == 0) & same_word(word, b"text"),
         Service::Explain => takes_after_explain(k, word),
+        Service::Sheet => (k == 0) & is_numeral(word),
+        Service::Board => true,
         Service::Thin => false,
         Service::Unknown => false,
     }
@@ -104,6 +106,8 @@ fn least_words(asked: Service) -> usize
         Service::Name => 1,
         Service::Run => 0,
         Service::Thin => 0,
+        Service::Sheet => 0,
+        Service::Board => 0,
         Service::Help => 0,
         Service::Explain => 1,
         Service::Unknown => 0,

@@ -4,9 +4,9 @@ use mathlib.Core.Path.{_≡_, sym}
 use mathlib.Core.List.{List}
 use borrow.Author.Needs.{needs}
 use denote.Ref.{now}
-use Rattle.command_line.specs.declared.Service.the-variants.{Check, Steps, Name, Run, Thin, Help, Explain, Unknown}
+use Rattle.command_line.specs.declared.Service.the-variants.{Check, Steps, Name, Run, Thin, Sheet, Board, Help, Explain, Unknown}
 use Rattle.command_line.specs.Words.{serviceSaid}
-use Rattle.command_line.proofs.Spelling.{past-check, past-steps, past-name, past-run, past-thin, past-help, none-tried, tried, goes-past}
+use Rattle.command_line.proofs.Spelling.{past-check, past-steps, past-name, past-run, past-thin, past-sheet, past-board, past-help, none-tried, tried, goes-past}
 use Rattle.command_line.proofs.service_said.Statement.{statement}
 use Rattle.command_line.proofs.service_said.Tie as tie
 
@@ -44,8 +44,20 @@ not-thin c = goes-past Thin (past-thin (word-5 c)) (c .before .same-word5 .ensur
 abbrev word-6 : tie.Else6 → List ℕ
 word-6 c = word-5 (c .before .before .before)
 
-not-help : (c : tie.Else6) → serviceSaid (word-6 c) ≡ past-help (word-6 c)
-not-help c = goes-past Help (past-help (word-6 c)) (c .before .same-word6 .ensures) (not-thin (c .before .before .before)) (c .if6 .left)
+not-sheet : (c : tie.Else6) → serviceSaid (word-6 c) ≡ past-sheet (word-6 c)
+not-sheet c = goes-past Sheet (past-sheet (word-6 c)) (c .before .same-word6 .ensures) (not-thin (c .before .before .before)) (c .if6 .left)
+
+abbrev word-7 : tie.Else7 → List ℕ
+word-7 c = word-6 (c .before .before .before)
+
+not-board : (c : tie.Else7) → serviceSaid (word-7 c) ≡ past-board (word-7 c)
+not-board c = goes-past Board (past-board (word-7 c)) (c .before .same-word7 .ensures) (not-sheet (c .before .before .before)) (c .if7 .left)
+
+abbrev word-8 : tie.Else8 → List ℕ
+word-8 c = word-7 (c .before .before .before)
+
+not-help : (c : tie.Else8) → serviceSaid (word-8 c) ≡ past-help (word-8 c)
+not-help c = goes-past Help (past-help (word-8 c)) (c .before .same-word8 .ensures) (not-board (c .before .before .before)) (c .if8 .left)
 
 slice-aggregate-same-word : tie.Need-slice-aggregate-same-word
 slice-aggregate-same-word c = search needs
@@ -111,7 +123,7 @@ same-word-requires-6 c κs = search needs
 returns-6 : tie.Need-returns-6
 returns-6 c =
     let e = c .before .before .before in
-    tried Help (past-help (word-5 e)) (c .before .same-word6 .ensures) (not-thin e) (c .if6 .taken)
+    tried Sheet (past-sheet (word-5 e)) (c .before .same-word6 .ensures) (not-thin e) (c .if6 .taken)
 
 slice-aggregate-same-word-7 : tie.Need-slice-aggregate-same-word-7
 slice-aggregate-same-word-7 c = search needs
@@ -122,10 +134,32 @@ same-word-requires-7 c κs = search needs
 returns-7 : tie.Need-returns-7
 returns-7 c =
     let e = c .before .before .before in
-    tried Explain Unknown (c .before .same-word7 .ensures) (not-help e) (c .if7 .taken)
+    tried Board (past-board (word-6 e)) (c .before .same-word7 .ensures) (not-sheet e) (c .if7 .taken)
+
+slice-aggregate-same-word-8 : tie.Need-slice-aggregate-same-word-8
+slice-aggregate-same-word-8 c = search needs
+
+same-word-requires-8 : tie.Need-same-word-requires-8
+same-word-requires-8 c κs = search needs
 
 returns-8 : tie.Need-returns-8
-returns-8 c = sym (goes-past Explain Unknown (c .before .same-word7 .ensures) (not-help (c .before .before .before)) (c .if7 .left))
+returns-8 c =
+    let e = c .before .before .before in
+    tried Help (past-help (word-7 e)) (c .before .same-word8 .ensures) (not-board e) (c .if8 .taken)
+
+slice-aggregate-same-word-9 : tie.Need-slice-aggregate-same-word-9
+slice-aggregate-same-word-9 c = search needs
+
+same-word-requires-9 : tie.Need-same-word-requires-9
+same-word-requires-9 c κs = search needs
+
+returns-9 : tie.Need-returns-9
+returns-9 c =
+    let e = c .before .before .before in
+    tried Explain Unknown (c .before .same-word9 .ensures) (not-help e) (c .if9 .taken)
+
+returns-10 : tie.Need-returns-10
+returns-10 c = sym (goes-past Explain Unknown (c .before .same-word9 .ensures) (not-help (c .before .before .before)) (c .if9 .left))
 
 pub service-said-spec : {M : Type 1} → statement M
 service-said-spec =
@@ -152,4 +186,10 @@ service-said-spec =
     slice-aggregate-same-word-7
     same-word-requires-7
     returns-7
-    returns-8)
+    slice-aggregate-same-word-8
+    same-word-requires-8
+    returns-8
+    slice-aggregate-same-word-9
+    same-word-requires-9
+    returns-9
+    returns-10)

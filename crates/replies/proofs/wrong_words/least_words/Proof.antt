@@ -28,6 +28,12 @@ enum-told-7 c = search needs
 enum-told-8 : tie.Need-enum-told-8
 enum-told-8 c = search needs
 
+enum-told-9 : tie.Need-enum-told-9
+enum-told-9 c = search needs
+
+enum-told-10 : tie.Need-enum-told-10
+enum-told-10 c = search needs
+
 returns : tie.Need-returns
 unfolding leastWords
 returns c = search needs
@@ -60,6 +66,14 @@ returns-8 : tie.Need-returns-8
 unfolding leastWords
 returns-8 c = search needs
 
+returns-9 : tie.Need-returns-9
+unfolding leastWords
+returns-9 c = search needs
+
+returns-10 : tie.Need-returns-10
+unfolding leastWords
+returns-10 c = search needs
+
 pub least-words-spec : {M : Type 1} → statement M
 least-words-spec =
     tie.close
@@ -72,6 +86,8 @@ least-words-spec =
     enum-told-6
     enum-told-7
     enum-told-8
+    enum-told-9
+    enum-told-10
     returns
     returns-2
     returns-3
@@ -79,4 +95,6 @@ least-words-spec =
     returns-5
     returns-6
     returns-7
-    returns-8)
+    returns-8
+    returns-9
+    returns-10)

@@ -46,8 +46,17 @@ takes-after-explain-requires c κs = search needs
 enum-told-7 : tie.Need-enum-told-7
 enum-told-7 c = search needs
 
+is-numeral-requires-3 : tie.Need-is-numeral-requires-3
+is-numeral-requires-3 c κs = search needs
+
 enum-told-8 : tie.Need-enum-told-8
 enum-told-8 c = search needs
+
+enum-told-9 : tie.Need-enum-told-9
+enum-told-9 c = search needs
+
+enum-told-10 : tie.Need-enum-told-10
+enum-told-10 c = search needs
 
 returns : tie.Need-returns
 unfolding takes
@@ -75,11 +84,19 @@ returns-6 c = rw (c .before .enum-told6 .given .1, c .takes-after-explain .ensur
 
 returns-7 : tie.Need-returns-7
 unfolding takes
-returns-7 c = rw (c .enum-told7 .given .1)
+returns-7 c = rw (c .before .enum-told7 .given .1, c .is-numeral3 .ensures)
 
 returns-8 : tie.Need-returns-8
 unfolding takes
 returns-8 c = rw (c .enum-told8 .given .1)
+
+returns-9 : tie.Need-returns-9
+unfolding takes
+returns-9 c = rw (c .enum-told9 .given .1)
+
+returns-10 : tie.Need-returns-10
+unfolding takes
+returns-10 c = rw (c .enum-told10 .given .1)
 
 pub takes-spec : {M : Type 1} → statement M
 takes-spec =
@@ -99,7 +116,10 @@ takes-spec =
     enum-told-6
     takes-after-explain-requires
     enum-told-7
+    is-numeral-requires-3
     enum-told-8
+    enum-told-9
+    enum-told-10
     returns
     returns-2
     returns-3
@@ -107,4 +127,6 @@ takes-spec =
     returns-5
     returns-6
     returns-7
-    returns-8)
+    returns-8
+    returns-9
+    returns-10)
