@@ -1,39 +1,46 @@
--- The line of a run, by what Run answers: a refusal, that all events ran, or where a machine blocked.
+-- The line of a run, by what is answered: a refusal, that all ran, or where a machine blocked. One law for the events of a text and the names on a sheet.
 use Prim.Native.Nat.{ℕ, _-_, _≤_}
 use native.Mathlib.Omega.{arith}
 use mathlib.Core.Path.{_≡_, refl, ap, ap₂, sym, _∙_}
 use mathlib.Core.Logic.{_⊎_, inl, inr}
-use mathlib.Core.Bool.{not}
-use mathlib.Core.List.{List, _++_}
+use mathlib.Core.Bool.{Bool, true, false, not, _&&_}
+use mathlib.Core.List.{List, [], _++_}
 use mathlib.Core.Option.{Option, none, some}
 use lib.Dec.{T}
-use lib.ListN.{length, take, replicate, length-append}
+use lib.ListN.{length, take, replicate, length-append, length-map}
 use lib.Seq.{take-at}
 use Rattle.model.specs.declared.Refusal as D
 use Rattle.model.specs.Cases.{tabled}
-use Rattle.model.specs.Refusal.{Refusal, Checked, refused, passed, refusalOf, _>>=_}
+use Rattle.model.specs.Refusal.{Refusal, refuse, Checked, refused, passed, need, refusalOf, _>>=_, _>>_}
 use Rattle.model.specs.TransitionSystem.{declared}
-use Rattle.model.specs.Product.{Ran, runFrom}
+use Rattle.model.specs.Lists.{every, index, isEmpty}
+use Rattle.model.specs.Product.{Ran, effective, runFrom}
 use Rattle.model.specs.Machine.{places, move}
-use Rattle.model.specs.Bytes.{bytes, numeral}
+use Rattle.model.specs.Bytes.{Name, bytes, numeral}
 use Rattle.model.specs.Text.{Input, system}
 use Rattle.model.specs.Services as Services
 use Rattle.model.specs.Services.{asFarAs12, writtenRefusal, runInput, padded, outcomeOf, ranAnswer}
-use Rattle.model.specs.Printed.{printedBy, ranWord, placesWord, ranLine, printedRun}
+use Rattle.model.specs.Sheet.{Board}
+use Rattle.model.specs.Board.{readSheet, moveOn, startPlaces, splitNames, runNames, runBoard, boardRun}
+use Rattle.model.specs.Printed.{printedBy, ranWord, placesWord, ranLine, printedRun, printedBoard}
 use Rattle.model.proofs.Laws.{dec}
 use Rattle.model.proofs.Order.{Verdict, turned-down, let-through}
 use Rattle.model.proofs.Verdicts.{verdict12, same-passed}
 use Rattle.model.proofs.Refusing.{events-declared, events-unknown}
 use Rattle.model.proofs.Together.{run-length}
 use Rattle.model.proofs.Standing.{length-places}
+use Rattle.model.proofs.Demands.{demand1}
 use Rattle.rows.specs.declared.Verdict as Rows
 use Rattle.rows.specs.declared.Tables.{Tables}
 use Rattle.writers.proofs.Refusals.{numeral-most}
+use Rattle.product.specs.declared.Outcome.{Outcome}
 use Rattle.product.specs.declared.Outcome.the-variants.{Whole, Blocked, Refused}
 use Rattle.product.specs.declared.RunAnswer.{RunAnswer}
 use Rattle.product.specs.Answers.{outcomeIs, runAnswer}
 use Rattle.stages.specs.Stages.{ReadAsFarAs12}
 use Rattle.stages.proofs.Stages.{past-12}
+use Rattle.board_service.specs.Boards.{RunsBoard}
+use Rattle.printing.specs.Shown.{FewMachines, outcomeLine}
 
 -- ---- how many machines the rows have
 
@@ -76,41 +83,71 @@ comes s es = go (verdict12 s)
             (run-length (move (system v)) (v .machines) es start (length-places (v .machines) (v .initial)))
         on (inr t) = stopped _ (here ∙ events-unknown (move (system v)) (length (v .names)) (v .machines) start es t)
 
-run-is : (s es : List ℕ) → Services.run s es ≡ ranAnswer (running s es)
-unfolding Services.run
-run-is s es = refl
+-- the machines of a run that is not refused: so many, and each has a place
+abbrev RunMachines : Checked Ran → ℕ → Type 0
+RunMachines c n = (a : Ran) → c ≡ passed a → (length (a .places) ≡ n) × (n ≤ 16)
 
-print-is : (s es : List ℕ) → printedRun s es ≡ printedBy ranLine (running s es)
-unfolding printedRun
-print-is s es = refl
+pub text-machines : (s es : List ℕ) {n : ℕ} → MachinesOf s n → RunMachines (running s es) n
+text-machines s es {n} known a p = go (comes s es)
+  where
+    go : Comes s es → (length (a .places) ≡ n) × (n ≤ 16)
+    go (stopped r e) = let z : _≡_ {A = ℕ} 0 1 = cc in absurd (omega arith)
+    go (ran v x e y few size) = let z : x ≡ a = cc in let k = known v y in (rw (← z) (size ∙ sym k), omega (arith, few))
 
--- ---- the outcome by its cases
+-- ---- of the names on a sheet's machines
 
-not-refused : (n : ℕ) (o : Option ℕ) (r : Refusal) → ¬ (Services.refusedBy r ≡ outcomeOf n o)
-unfolding outcomeOf
-not-refused n none r h = let z : _≡_ {A = ℕ} 0 1 = cc in omega arith
-not-refused n (some m) r h = let z : _≡_ {A = ℕ} 0 1 = cc in omega arith
+abbrev boarding : List ℕ → List ℕ → Checked Ran
+boarding s t = readSheet s >>= λ b. runBoard b t
 
-not-whole : (r : Refusal) → ¬ (Services.whole ≡ Services.refusedBy r)
-not-whole r h = let z : _≡_ {A = ℕ} 0 1 = cc in omega arith
+pub sheet-machines : (s t : List ℕ) {n : ℕ} → ((b : Board) → readSheet s ≡ passed b → n ≡ length b) → RunMachines (boarding s t) n
+unfolding runNames startPlaces
+sheet-machines s t {n} known a p = go (readSheet s) refl p
+  where
+    go : (c : Checked Board) → readSheet s ≡ c → (c >>= λ b. runBoard b t) ≡ passed a → (length (a .places) ≡ n) × (n ≤ 16)
+    go (refused r) e q = let z : _≡_ {A = ℕ} 0 1 = cc in absurd (omega arith)
+    go (passed b) e q = by (every (effective moveOn b) es && isEmpty rest) q
+      where
+        es : List Name
+        es = splitNames [] t .0
 
-not-blocked : (n m : ℕ) (r : Refusal) → ¬ (Services.blocked n m ≡ Services.refusedBy r)
-not-blocked n m r h = let z : _≡_ {A = ℕ} 0 1 = cc in omega arith
+        rest : List ℕ
+        rest = splitNames [] t .1
 
-same-refusal : (r q : Refusal) → Services.refusedBy r ≡ Services.refusedBy q → r ≡ q
-same-refusal r q h = cc
+        by : (u : Bool) → (need (refuse 14 (index (λ e. not (effective moveOn b e)) es) 0) u >> passed (runFrom moveOn b (startPlaces b) es)) ≡ passed a
+            → (length (a .places) ≡ n) × (n ≤ 16)
+        by true h =
+            let z : runFrom moveOn b (startPlaces b) es ≡ a = cc in
+            let k = known b e in
+            (rw (← z) (run-length moveOn b es (startPlaces b) (length-map b (λ l. l .start)) ∙ sym k), omega (arith, demand1 s .loading .accepts b .0 e .1 .most))
+        by false h = let z : _≡_ {A = ℕ} 0 1 = cc in absurd (omega arith)
 
-word-whole : (n : ℕ) (o : Option ℕ) → Services.whole ≡ outcomeOf n o → ranWord n o ≡ bytes "(whole "
-unfolding outcomeOf ranWord
-word-whole n none h = refl
-word-whole n (some m) h = let z : _≡_ {A = ℕ} 0 1 = cc in absurd (omega arith)
+-- ---- the line by the answer
 
--- what stands before the places
-unfoldable pub blockedWord : ℕ → ℕ → List ℕ
-blockedWord n m = bytes "(blocked " ++ (numeral n ++ (bytes " " ++ (numeral m ++ bytes " ")))
+module _ {o : Outcome} (qs : List ℕ) where
+  pub line-refused : {why : D.Refusal} → o ≡ Refused why → outcomeLine (outcomeIs o) qs ≡ writtenRefusal (tabled why)
+  unfolding outcomeIs outcomeLine
+  line-refused e = rw e
 
-pub blocked-most : (n m : ℕ) → length (blockedWord n m) ≤ 51
-unfolding blockedWord
+  pub line-whole : o ≡ Whole → outcomeLine (outcomeIs o) qs ≡ bytes "(whole " ++ placesWord qs
+  unfolding outcomeIs outcomeLine ranWord
+  line-whole e = rw e
+
+  pub line-blocked : {n m : ℕ} → o ≡ Blocked n m → outcomeLine (outcomeIs o) qs ≡ ranWord n (some m) ++ placesWord qs
+  unfolding outcomeIs outcomeLine
+  line-blocked e = rw e
+
+module _ {o : Outcome} {machines : ℕ} (f : FewMachines (outcomeIs o) machines) where
+  pub few-whole : o ≡ Whole → machines ≤ 16
+  unfolding outcomeIs
+  few-whole e = f .few (λ r h. let z : _≡_ {A = ℕ} 0 1 = cc in omega arith)
+
+  pub few-blocked : {n m : ℕ} → o ≡ Blocked n m → machines ≤ 16
+  unfolding outcomeIs
+  few-blocked e = f .few (λ r h. let z : _≡_ {A = ℕ} 0 1 = cc in omega arith)
+
+-- what stands before the places of a run that was blocked
+pub blocked-most : (n m : ℕ) → length (ranWord n (some m)) ≤ 51
+unfolding ranWord
 blocked-most n m =
     omega (
       arith,
@@ -122,62 +159,62 @@ blocked-most n m =
       numeral-most m,
     )
 
-word-blocked : (n : ℕ) (o : Option ℕ) (k m : ℕ) → Services.blocked k m ≡ outcomeOf n o → ranWord n o ≡ blockedWord k m
-unfolding outcomeOf ranWord blockedWord
-word-blocked n none k m h = let z : _≡_ {A = ℕ} 0 1 = cc in absurd (omega arith)
-word-blocked n (some j) k m h = let a : n ≡ k = cc in let b : j ≡ m = cc in rw (a, b)
+-- ---- what is printed of a run, whatever is run
 
--- ---- the line by the answer
+went : (n : ℕ) (o : Option ℕ) (qs : List ℕ) → outcomeLine (outcomeOf n o) qs ≡ ranWord n o ++ placesWord qs
+unfolding outcomeLine outcomeOf ranWord
+went n none qs = refl
+went n (some m) qs = refl
 
--- the places of so many machines are printed after this word
-pub record Line (s es word : List ℕ) (machines : ℕ) (row : List ℕ) : Type 0 where
-  pub few : machines ≤ 16
-  pub line : printedRun s es ≡ word ++ placesWord (take machines row)
+not-refused : (n : ℕ) (o : Option ℕ) (r : Refusal) → ¬ (outcomeOf n o ≡ Services.refusedBy r)
+unfolding outcomeOf
+not-refused n none r h = let z : _≡_ {A = ℕ} 0 1 = cc in omega arith
+not-refused n (some m) r h = let z : _≡_ {A = ℕ} 0 1 = cc in omega arith
 
-module _ (s es : List ℕ) (answer : RunAnswer) (told : runAnswer answer ≡ Services.run s es) where
-  outcome-told : {c : Checked Ran} → running s es ≡ c → outcomeIs (answer .outcome) ≡ ranAnswer c .outcome
+module _ (c : Checked Ran) (answer : RunAnswer) (told : runAnswer answer ≡ ranAnswer c) (machines : ℕ) (known : RunMachines c machines) where
+  outcome-told : {x : Checked Ran} → c ≡ x → outcomeIs (answer .outcome) ≡ ranAnswer x .outcome
   unfolding runAnswer
-  outcome-told e = ap (λ (a : Services.RunAnswer). a .outcome) (told ∙ run-is s es ∙ ap ranAnswer e)
+  outcome-told e = ap (λ (a : Services.RunAnswer). a .outcome) (told ∙ ap ranAnswer e)
 
-  places-told : {c : Checked Ran} → running s es ≡ c → answer .places ≡ ranAnswer c .places
+  places-told : {x : Checked Ran} → c ≡ x → answer .places ≡ ranAnswer x .places
   unfolding runAnswer
-  places-told e = ap (λ (a : Services.RunAnswer). a .places) (told ∙ run-is s es ∙ ap ranAnswer e)
+  places-told e = ap (λ (a : Services.RunAnswer). a .places) (told ∙ ap ranAnswer e)
 
-  pub run-refused : (why : D.Refusal) → answer .outcome ≡ Refused why → printedRun s es ≡ writtenRefusal (tabled why)
-  unfolding outcomeIs ranAnswer printedBy
-  run-refused why h = go (comes s es)
+  pub few-machines : FewMachines (outcomeIs (answer .outcome)) machines
+  unfolding ranAnswer
+  few-machines = go c refl
     where
-      go : Comes s es → printedRun s es ≡ writtenRefusal (tabled why)
-      go (stopped r e) =
-          print-is s es ∙ ap (printedBy ranLine) e ∙ ap writtenRefusal (same-refusal r (tabled why) (sym (outcome-told e) ∙ ap outcomeIs h))
-      go (ran v a e x few size) = absurd (not-refused (a .ran) (a .blocked) (tabled why) (ap outcomeIs (sym h) ∙ outcome-told e))
+      go : (x : Checked Ran) → c ≡ x → FewMachines (outcomeIs (answer .outcome)) machines
+      go (refused r) e = record { few = λ n. absurd (n r (outcome-told e)) }
+      go (passed a) e = record { few = λ n. known a e .1 }
 
-  module _ (machines : ℕ) (known : MachinesOf s machines) where
-    -- of a run that is not refused
-    lined : (v : Input) (a : Ran) → running s es ≡ passed a → asFarAs12 s ≡ passed v → length (v .machines) ≤ 16 → length (a .places) ≡ length (v .machines)
-        → {word : List ℕ} → ranWord (a .ran) (a .blocked) ≡ word → Line s es word machines (answer .places)
-    unfolding ranAnswer padded printedBy ranLine
-    lined v a e x few size q =
-        let counted = known v x in
-        record {
-          few = omega (arith, counted, few);
-          line = print-is s es ∙ ap (printedBy ranLine) e
-              ∙ ap₂ (λ (w : List ℕ) (ps : List ℕ). w ++ placesWord ps) q
-              (sym (ap (take machines) (places-told e) ∙ take-at (a .places) (replicate (16 - length (a .places)) 0) machines (size ∙ sym counted)));
-        }
+  pub ran-printed : outcomeLine (outcomeIs (answer .outcome)) (take machines (answer .places)) ≡ printedBy ranLine c
+  unfolding ranAnswer outcomeLine printedBy ranLine padded
+  ran-printed = go c refl
+    where
+      go : (x : Checked Ran) → c ≡ x → outcomeLine (outcomeIs (answer .outcome)) (take machines (answer .places)) ≡ printedBy ranLine c
+      go (refused r) e = rw (outcome-told e, e)
+      go (passed a) e =
+          ap₂ outcomeLine (outcome-told e) (ap (take machines) (places-told e) ∙ take-at (a .places) (replicate (16 - length (a .places)) 0) machines (known a e .0))
+          ∙ went (a .ran) (a .blocked) (a .places)
+          ∙ sym (ap (printedBy ranLine) e)
 
-    pub run-whole : answer .outcome ≡ Whole → Line s es (bytes "(whole ") machines (answer .places)
-    unfolding outcomeIs ranAnswer
-    run-whole h = go (comes s es)
-      where
-        go : Comes s es → Line s es (bytes "(whole ") machines (answer .places)
-        go (stopped r e) = absurd (not-whole r (ap outcomeIs (sym h) ∙ outcome-told e))
-        go (ran v a e x few size) = lined v a e x few size (word-whole (a .ran) (a .blocked) (ap outcomeIs (sym h) ∙ outcome-told e))
+-- ---- both runs
 
-    pub run-blocked : (n m : ℕ) → answer .outcome ≡ Blocked n m → Line s es (blockedWord n m) machines (answer .places)
-    unfolding outcomeIs ranAnswer
-    run-blocked n m h = go (comes s es)
-      where
-        go : Comes s es → Line s es (blockedWord n m) machines (answer .places)
-        go (stopped r e) = absurd (not-blocked n m r (ap outcomeIs (sym h) ∙ outcome-told e))
-        go (ran v a e x few size) = lined v a e x few size (word-blocked (a .ran) (a .blocked) n m (ap outcomeIs (sym h) ∙ outcome-told e))
+module _ (s es : List ℕ) (answer : RunAnswer) (told : runAnswer answer ≡ Services.run s es) (machines : ℕ) (known : MachinesOf s machines) where
+  pub run-few : FewMachines (outcomeIs (answer .outcome)) machines
+  unfolding Services.run
+  run-few = few-machines (running s es) answer told machines (text-machines s es known)
+
+  pub run-printed : outcomeLine (outcomeIs (answer .outcome)) (take machines (answer .places)) ≡ printedRun s es
+  unfolding Services.run printedRun
+  run-printed = ran-printed (running s es) answer told machines (text-machines s es known)
+
+module _ {s t : List ℕ} {machines : ℕ} {answer : RunAnswer} (r : RunsBoard s t machines answer) where
+  pub board-few : FewMachines (outcomeIs (answer .outcome)) machines
+  unfolding boardRun
+  board-few = few-machines (boarding s t) answer (r .runs) machines (sheet-machines s t (r .counted))
+
+  pub board-printed : outcomeLine (outcomeIs (answer .outcome)) (take machines (answer .places)) ≡ printedBoard s t
+  unfolding boardRun printedBoard
+  board-printed = ran-printed (boarding s t) answer (r .runs) machines (sheet-machines s t (r .counted))

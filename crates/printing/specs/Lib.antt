@@ -1,2 +1,2 @@
--- `Shown`: what stands at the beginning of a buffer, and what Thin leaves to be printed.
+-- `Shown`: what stands at the beginning of a buffer, and what is left to be printed of an answer.
 pub mod Shown

@@ -5,18 +5,22 @@ ghost use Prim.Native.Nat.{_+_, _*_, _≤_};
 ghost use lib.ListN.{length, take};
 ghost use Rattle.model.specs.Cases.{tabled};
 ghost use Rattle.model.specs.Services.{writtenRefusal};
-ghost use Rattle.model.specs.Printed.{printedCheck, transitionLine, printedSteps, printedName, placesWord, printedRun, joined, printedThin};
+ghost use Rattle.model.specs.Printed.{printedCheck, transitionLine, printedSteps, printedName, placesWord, printedRun, joined, printedThin, printedSheet, printedBoard};
 ghost use Rattle.rows.specs.Told.{firstTransitions};
 ghost use Rattle.stages.specs.Stages.{ReadAsFarAs7, ReadAsFarAs12};
 ghost use Rattle.writers.specs.Written.{Writes};
-ghost use Rattle.printing.specs.Shown.{Shows, keptBelow};
+ghost use Rattle.answers.specs.Answers.{answered};
+ghost use Rattle.product.specs.Answers.{outcomeIs};
+ghost use Rattle.printing.specs.Shown.{Shows, FitsBuffer, lentLine, FewMachines, outcomeLine, keptBelow};
 use answers::Answer;
 use answers::numbers;
+use board_service::board_run;
 use check_service::check;
 use model::MAX_MACHINES;
 use model::Refusal;
 use name_service::name_in_plan;
 use product::Outcome;
+use product::RunAnswer;
 use rows::Verdict;
 use rows::wide;
 use run_service::run_in_split;
@@ -37,12 +41,12 @@ fn print_refusal(why: Refusal, out: &mut [u8]) -> usize
     write_refusal(row.number, row.detail, row.second, out)
 }
 
-// The sheet, if no more bytes than are lent; a refusal's line otherwise.
-pub fn print_check(text: &[u8], lent: usize, out: &mut [u8]) -> usize
-    requires { ⌜ length (now out) ≡ 32768 ⌝ }
-    ensures { λ r. ⌜ Shows (printedCheck (now (text .entry)) lent) r (now (out .exit)) ⌝ }
+// What a call has left in the buffer, if no more bytes than are lent; a refusal's line otherwise.
+fn print_lent(answer: Answer, lent: usize, out: &mut [u8]) -> usize
+    requires { ⌜ (length (now out) ≡ 32768) × FitsBuffer (answered answer) ⌝ }
+    ensures { λ r. ⌜ Shows (lentLine lent (answered answer) (now (out .entry))) r (now (out .exit)) ⌝ }
 {
-    match check(text, out) {
+    match answer {
         Answer::Refused(why) => print_refusal(why, out),
         Answer::Accepted { size } => {
             if lent < size {
@@ -51,6 +55,23 @@ pub fn print_check(text: &[u8], lent: usize, out: &mut [u8]) -> usize
             size
         }
     }
+}
+
+pub fn print_check(text: &[u8], lent: usize, out: &mut [u8]) -> usize
+    requires { ⌜ length (now out) ≡ 32768 ⌝ }
+    ensures { λ r. ⌜ Shows (printedCheck (now (text .entry)) lent) r (now (out .exit)) ⌝ }
+{
+    let answer = check(text, out);
+    print_lent(answer, lent, out)
+}
+
+// The machines of a sheet, written again.
+pub fn print_sheet(sheet: &[u8], lent: usize, out: &mut [u8]) -> usize
+    requires { ⌜ length (now out) ≡ 32768 ⌝ }
+    ensures { λ r. ⌜ Shows (printedSheet (now (sheet .entry)) lent) r (now (out .exit)) ⌝ }
+{
+    let answer = board_service::sheet(sheet, out);
+    print_lent(answer, lent, out)
 }
 
 // Three numbers below 256 make a line of 19 bytes at most.
@@ -140,15 +161,13 @@ fn write_places(places: [u8; MAX_MACHINES], n: usize, out: &mut [u8], at: usize)
     write_bytes(b"))\n", out, i)
 }
 
-// The run of a list of events on the machines of a text that is checked as far as 12.
-pub fn print_run(split: CheckedSplit, text: &[u8], events: &[u8], out: &mut [u8]) -> usize
-    requires { ⌜ ReadAsFarAs12 (now text) (split .verdict) (split .tables) (split .pre) (split .post) (split .excited) × (length (now out) ≡ 32768) ⌝ }
-    ensures { λ r. ⌜ Shows (printedRun (now (text .entry)) (now (events .entry))) r (now (out .exit)) ⌝ }
+// How far a run went, and the places of so many machines; or the refusal's line.
+fn print_ran(answer: RunAnswer, machines: usize, out: &mut [u8]) -> usize
+    requires { ⌜ (length (now out) ≡ 32768) × FewMachines (outcomeIs (answer .outcome)) machines ⌝ }
+    ensures { λ r. ⌜ Shows (outcomeLine (outcomeIs (answer .outcome)) (take machines (answer .places))) r (now (out .exit)) ⌝ }
 {
-    let answer = run_in_split(split, text, events);
     let outcome = answer.outcome;
     let places = answer.places;
-    let machines = split.tables.counts.machines;
     match outcome {
         Outcome::Refused(why) => print_refusal(why, out),
         Outcome::Whole => {
@@ -164,6 +183,24 @@ pub fn print_run(split: CheckedSplit, text: &[u8], events: &[u8], out: &mut [u8]
             write_places(places, machines, out, e)
         }
     }
+}
+
+// The run of a list of events on the machines of a text that is checked as far as 12.
+pub fn print_run(split: CheckedSplit, text: &[u8], events: &[u8], out: &mut [u8]) -> usize
+    requires { ⌜ ReadAsFarAs12 (now text) (split .verdict) (split .tables) (split .pre) (split .post) (split .excited) × (length (now out) ≡ 32768) ⌝ }
+    ensures { λ r. ⌜ Shows (printedRun (now (text .entry)) (now (events .entry))) r (now (out .exit)) ⌝ }
+{
+    let answer = run_in_split(split, text, events);
+    print_ran(answer, split.tables.counts.machines, out)
+}
+
+// The run of a list of names on the machines of a sheet.
+pub fn print_board(sheet: &[u8], names: &[u8], out: &mut [u8]) -> usize
+    requires { ⌜ length (now out) ≡ 32768 ⌝ }
+    ensures { λ r. ⌜ Shows (printedBoard (now (sheet .entry)) (now (names .entry))) r (now (out .exit)) ⌝ }
+{
+    let run = board_run(sheet, names);
+    print_ran(run.answer, run.machines, out)
 }
 
 // The numbers of the machines that are kept, with a space between them.
