@@ -1,5 +1,5 @@
 -- A row in which each word is ended by byte 0, and the same with byte 10 for each 0: a list of names.
-use Prim.Native.Nat.{ℕ, zero, suc, _+_, _<_, _≤_}
+use Prim.Native.Nat.{ℕ, zero, suc, _+_, _-_, _<_, _≤_}
 use native.Mathlib.Numerals.{add-one}
 use native.Mathlib.Omega.{arith}
 use mathlib.Core.Path.{_≡_, refl, ap, sym, _∙_, subst}
@@ -7,7 +7,7 @@ use mathlib.Core.Bool.{Bool, true, false, cond}
 use mathlib.Core.List.{List, [], _∷_, _++_, map, flatMap, flatten, append-nil}
 use borrow.Author.Tests.{eqb-true}
 use lib.Dec.{eqb}
-use lib.ListN.{length, getD, take, drop, set, length-append, length-set, drop-of-length-le}
+use lib.ListN.{length, getD, take, drop, set, length-append, length-set, length-drop, drop-of-length-le}
 use lib.Seq.{take-all, drop-cons, append-snoc, drop-set-lt, take-suc-set}
 use Rattle.model.specs.BoardTable.{ended}
 use Rattle.command_line.specs.WordRow.{begunBy, wordsIn, rowOf, EachEnded}
@@ -37,11 +37,6 @@ row-ended (w ∷ ws) = with-word w (row-ended ws)
 
 -- ---- a part of such a row
 
--- what one byte and the words behind it make
-data Begins (b : ℕ) (s : List ℕ) : Type 0 where
-  ends : b ≡ 0 → Begins b s
-  goes-on : (w : List ℕ) (ws : List (List ℕ)) → eqb b 0 ≡ false → wordsIn s ≡ w ∷ ws → Begins b s
-
 tail-same : (b c : ℕ) (s t : List ℕ) → b ∷ s ≡ c ∷ t → s ≡ t
 tail-same b c s t e = cc
 
@@ -54,10 +49,14 @@ ended-tail b s h = go (eqb b 0) (wordsIn s) refl (h .rebuilt)
     go false [] p q = subst EachEnded (tail-same b b (0 ∷ []) s q) (row-ended ([] ∷ []))
     go false (w ∷ ws) p q = record { rebuilt = ap rowOf p ∙ tail-same b b (w ++ (0 ∷ rowOf ws)) s q }
 
-pub ended-from : (k : ℕ) (s : List ℕ) → EachEnded s → EachEnded (drop k s)
+ended-from : (k : ℕ) (s : List ℕ) → EachEnded s → EachEnded (drop k s)
 ended-from zero s h = h
 ended-from (suc k) [] h = h
 ended-from (suc k) (b ∷ s) h = ended-from k s (ended-tail b s h)
+
+-- as the code hands it on
+pub ended-part : (s : List ℕ) (at : ℕ) → EachEnded s → EachEnded (take (length s - at) (drop at s))
+ended-part s at h = rw (take-all (length s - at) (drop at s) (omega (arith, length-drop at s))) (ended-from at s h)
 
 -- ---- the list of names
 
