@@ -1,17 +1,18 @@
 -- What is left to be printed, by what the words say.
 use Prim.Native.Nat.{ℕ, _<_}
 use mathlib.Core.Path.{_≡_, refl, ap, sym, _∙_, subst}
-use mathlib.Core.List.{List, [], _∷_}
+use mathlib.Core.List.{List, [], _∷_, flatMap}
 use mathlib.Core.Option.{Option, none, some, Option·map}
 use lib.ListN.{length, take}
 use Rattle.model.specs.Services.{printed}
-use Rattle.model.specs.Printed.{printedThin}
+use Rattle.model.specs.BoardTable.{ended}
+use Rattle.model.specs.Printed.{printedThin, printedBoard}
 use Rattle.printing.proofs.Checking.{whole-sheet}
 use Rattle.printing.specs.Shown.{Shows}
 use Rattle.command_line.specs.declared.Said.{Said}
 use Rattle.command_line.specs.declared.Said.the-variants.{Neither, Number}
 use Rattle.command_line.specs.declared.Service.{Service}
-use Rattle.command_line.specs.declared.Service.the-variants.{Check, Thin}
+use Rattle.command_line.specs.declared.Service.the-variants.{Check, Thin, Board}
 use Rattle.command_line.specs.Words.{said}
 use Rattle.command_line.specs.WordRow.{wordsIn, listSaid, Lists}
 use Rattle.command_line.specs.Program.{sizeSaid, answerThin, answerBy, answerTo, outputOf, serviceAsked, furtherWords}
@@ -58,6 +59,12 @@ thin-more row s h = go (some-words row h)
   where
     go : Some (wordsIn row) → none ≡ answerThin (wordsIn row) s
     go (words w vs e) = sym (ap (λ (ws : List (List ℕ)). answerThin ws s) e)
+
+-- ---- board
+
+pub names-listed : (row : List ℕ) {list : List ℕ} (s : List ℕ) → list ≡ flatMap ended (wordsIn row) → some (printedBoard s list) ≡ answerBy Board (wordsIn row) s
+unfolding answerBy
+names-listed row s e = ap (λ (t : List ℕ). some (printedBoard s t)) e
 
 -- ---- the service
 

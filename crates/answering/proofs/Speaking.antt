@@ -3,7 +3,7 @@ use Prim.Native.Nat.{ℕ, _<_, _≤_}
 use native.Mathlib.Omega.{arith}
 use mathlib.Core.Path.{_≡_, refl, ap, sym, _∙_, subst}
 use mathlib.Core.Logic.{_⊎_, inl, inr}
-use mathlib.Core.List.{List, [], _∷_, _++_}
+use mathlib.Core.List.{List, [], _∷_, _++_, flatMap}
 use mathlib.Core.Option.{Option, none, some, Option·map, Option·some-injective, Option·none-ne-some}
 use lib.ListN.{length, take, drop, length-append}
 use Rattle.model.specs.declared.Refusal.the-variants.{BufferTooShort}
@@ -12,12 +12,14 @@ use Rattle.model.specs.Refusal.{Refusal, Checked, refused, passed, _>>=_}
 use Rattle.model.specs.TransitionSystem.{Transition}
 use Rattle.model.specs.Product.{Ran}
 use Rattle.model.specs.Bytes.{bytes}
-use Rattle.model.specs.Text.{Input}
-use Rattle.model.specs.Sheet.{writtenCount, writtenSheet, sheet}
+use Rattle.model.specs.Sheet.{writtenCount, writtenSheet, boardOf, sheet}
+use Rattle.model.specs.Sheet as Sheets
+use Rattle.model.specs.Board.{readSheet, runBoard}
+use Rattle.model.specs.BoardTable.{ended}
 use Rattle.model.specs.Services.{Part, Kept, asFarAs7, asFarAs12, name, runInput, thin, writtenRefusal}
-use Rattle.model.specs.Printed.{printedBy, fitting, printedCheck, transitionLines, printedSteps, nameLine, printedName, ranWord, placesWord, ranLine, printedRun, keptLine, printedThin}
+use Rattle.model.specs.Printed.{printedBy, fitting, printedCheck, transitionLines, printedSteps, nameLine, printedName, ranWord, placesWord, ranLine, printedRun, keptLine, printedThin, printedSheet, printedBoard}
 use Rattle.command_line.specs.declared.Service.{Service}
-use Rattle.command_line.specs.declared.Service.the-variants.{Check, Steps, Name, Run, Thin, Help, Explain, Unknown}
+use Rattle.command_line.specs.declared.Service.the-variants.{Check, Steps, Name, Run, Thin, Sheet, Board, Help, Explain, Unknown}
 use Rattle.command_line.specs.Words.{serviceSaid}
 use Rattle.command_line.specs.Program.{sizeSaid, oneEventSaid, eventsSaid, namesOf, answerThin, answerBy, answerTo}
 use Rattle.model.proofs.Laws.{order}
@@ -54,9 +56,9 @@ kept-speaks : (k : Kept) → 0 < length (keptLine k)
 unfolding keptLine
 kept-speaks k = omega arith
 
-sheet-speaks : (v : Input) → 0 < length (sheet v)
-unfolding sheet writtenSheet writtenCount
-sheet-speaks v = omega arith
+sheet-speaks : (b : Sheets.Board) → 0 < length (writtenSheet b)
+unfolding writtenSheet writtenCount
+sheet-speaks b = omega arith
 
 -- what is lent suffices, or the refusal says how much is needed
 fitting-speaks : (lent : ℕ) (xs : List ℕ) → 0 < length xs → 0 < length (printedBy (λ w. w) (fitting lent xs))
@@ -66,13 +68,23 @@ fitting-speaks lent xs h = go (order lent (length xs))
     go (inl l) = subst (λ (w : List ℕ). 0 < length w) (printed-short (λ w. w) lent xs refl l) (refusal-speaks (tabled (BufferTooShort (length xs))))
     go (inr l) = subst (λ (w : List ℕ). 0 < length w) (printed-all (λ w. w) lent xs l) h
 
+-- a sheet is printed, a text's or the one that is read
+lent-speaks : {A : Type 0} (f : A → Sheets.Board) (lent : ℕ) (c : Checked A) → 0 < length (printedBy (λ w. w) (c >>= λ v. fitting lent (writtenSheet (f v))))
+unfolding printedBy
+lent-speaks f lent (refused r) = refusal-speaks r
+lent-speaks f lent (passed v) = fitting-speaks lent (writtenSheet (f v)) (sheet-speaks (f v))
+
 check-speaks : (s : List ℕ) (lent : ℕ) → 0 < length (printedCheck s lent)
-unfolding printedCheck printedBy
-check-speaks s lent = go (asFarAs12 s)
-  where
-    go : (c : Checked Input) → 0 < length (printedBy (λ w. w) (c >>= λ v. fitting lent (sheet v)))
-    go (refused r) = refusal-speaks r
-    go (passed v) = fitting-speaks lent (sheet v) (sheet-speaks v)
+unfolding printedCheck sheet
+check-speaks s lent = lent-speaks boardOf lent (asFarAs12 s)
+
+sheet-printed : (s : List ℕ) (lent : ℕ) → 0 < length (printedSheet s lent)
+unfolding printedSheet
+sheet-printed s lent = lent-speaks (λ b. b) lent (readSheet s)
+
+board-printed : (s t : List ℕ) → 0 < length (printedBoard s t)
+unfolding printedBoard
+board-printed s t = printed-speaks ranLine run-speaks (readSheet s >>= λ b. runBoard b t)
 
 steps-printed : (s : List ℕ) (lent : ℕ) → 0 < length (printedSteps s lent)
 unfolding printedSteps
@@ -101,6 +113,8 @@ by-answer Name ws s word e =
 by-answer Run ws s word e =
     mapped (printedRun s) (λ es. printed-speaks ranLine run-speaks (asFarAs12 s >>= λ v. runInput v es)) (eventsSaid (namesOf (asFarAs7 s)) ws) word e
 by-answer Thin ws s word e = thin-answer ws s word e
+by-answer Sheet ws s word e = mapped (printedSheet s) (sheet-printed s) (sizeSaid 32768 ws) word e
+by-answer Board ws s word e = mapped (printedBoard s) (board-printed s) (some (flatMap ended ws)) word e
 by-answer Help ws s word e = nothing-said e
 by-answer Explain ws s word e = nothing-said e
 by-answer Unknown ws s word e = nothing-said e

@@ -1,23 +1,26 @@
-// What the program answers to the words of its command line and the text on its standard input.
+// What the program answers to the words of its command line and the text, or the sheet, on its standard input.
 ghost use mathlib.Core.Path.{_≡_};
 ghost use lib.ListN.{length};
 ghost use Rattle.printing.specs.Shown.{Shows};
-ghost use Rattle.command_line.specs.declared.Service.the-variants.{Check, Steps, Name, Run, Thin};
-ghost use Rattle.command_line.specs.WordRow.{wordsIn};
+ghost use Rattle.command_line.specs.declared.Service.the-variants.{Check, Steps, Name, Run, Thin, Sheet, Board};
+ghost use Rattle.command_line.specs.WordRow.{wordsIn, EachEnded};
 ghost use Rattle.answering.specs.Known.{knownNames};
 ghost use Rattle.command_line.specs.Program.{answerBy, answerTo, outputOf};
 use command_line::Said;
 use command_line::Service;
 use command_line::events_said;
+use command_line::names_said;
 use command_line::one_event_said;
 use command_line::second_word;
 use command_line::service_asked;
 use command_line::size_said;
 use model::MAX_TEXT;
 use model::MAX_TRANSITIONS;
+use printing::print_board;
 use printing::print_check;
 use printing::print_name;
 use printing::print_run;
+use printing::print_sheet;
 use printing::print_steps;
 use printing::print_thin;
 use rows::Verdict;
@@ -98,8 +101,27 @@ fn answer_thin(words: &[u8], text: &[u8], out: &mut [u8]) -> usize
     print_thin(text, out)
 }
 
-fn answer_by(asked: Service, words: &mut [u8], text: &[u8], out: &mut [u8]) -> usize
+fn answer_sheet(words: &[u8], sheet: &[u8], out: &mut [u8]) -> usize
     requires { ⌜ length (now out) ≡ 32768 ⌝ }
+    ensures { λ r. ⌜ Shows (outputOf (answerBy Sheet (wordsIn (now (words .entry))) (now (sheet .entry)))) r (now (out .exit)) ⌝ }
+{
+    let Said::Number(lent) = size_said(words, MAX_TEXT) else {
+        return 0;
+    };
+    print_sheet(sheet, lent, out)
+}
+
+// The names take the place of the words: as many bytes, since byte 10 ends a name where byte 0 ended a word.
+fn answer_board(words: &mut [u8], sheet: &[u8], out: &mut [u8]) -> usize
+    requires { ⌜ (length (now out) ≡ 32768) × EachEnded (now words) ⌝ }
+    ensures { λ r. ⌜ Shows (outputOf (answerBy Board (wordsIn (now (words .entry))) (now (sheet .entry)))) r (now (out .exit)) ⌝ }
+{
+    names_said(words);
+    print_board(sheet, words, out)
+}
+
+fn answer_by(asked: Service, words: &mut [u8], text: &[u8], out: &mut [u8]) -> usize
+    requires { ⌜ (length (now out) ≡ 32768) × EachEnded (now words) ⌝ }
     ensures { λ r. ⌜ Shows (outputOf (answerBy asked (wordsIn (now (words .entry))) (now (text .entry)))) r (now (out .exit)) ⌝ }
 {
     match asked {
@@ -108,15 +130,17 @@ fn answer_by(asked: Service, words: &mut [u8], text: &[u8], out: &mut [u8]) -> u
         Service::Name => answer_name(words, text, out),
         Service::Run => answer_run(words, text, out),
         Service::Thin => answer_thin(words, text, out),
+        Service::Sheet => answer_sheet(words, text, out),
+        Service::Board => answer_board(words, text, out),
         Service::Help => 0,
         Service::Explain => 0,
         Service::Unknown => 0,
     }
 }
 
-// Any words and any text. The row of words is written over.
+// Any words, and any text or sheet. The row of words is written over.
 pub fn answer(words: &mut [u8], text: &[u8], out: &mut [u8]) -> usize
-    requires { ⌜ length (now out) ≡ 32768 ⌝ }
+    requires { ⌜ (length (now out) ≡ 32768) × EachEnded (now words) ⌝ }
     ensures { λ r. ⌜ Shows (outputOf (answerTo (wordsIn (now (words .entry))) (now (text .entry)))) r (now (out .exit)) ⌝ }
 {
     let asked = service_asked(words);

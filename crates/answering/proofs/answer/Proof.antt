@@ -3,6 +3,7 @@ use borrow.Author.Needs.{needs}
 use denote.Ref.{now}
 use Rattle.command_line.specs.WordRow.{wordsIn}
 use Rattle.command_line.proofs.Cutting.{words-from}
+use Rattle.command_line.proofs.Ending.{ended-part}
 use Rattle.answering.proofs.Saying.{shows-answer, answered}
 use Rattle.answering.proofs.answer.Statement.{statement}
 use Rattle.answering.proofs.answer.Tie as tie
@@ -23,7 +24,7 @@ part-answer-by-end : tie.Need-part-answer-by-end
 part-answer-by-end c = search needs
 
 answer-by-requires : tie.Need-answer-by-requires
-answer-by-requires c κs = search needs
+answer-by-requires c κs = (search needs, ended-part _ _ (c .before .before .before .before .before .before .before .before .before .pre .1))
 
 same-length : tie.Need-same-length
 same-length c = search needs

@@ -40,11 +40,23 @@ answer-thin-requires c κs = search needs
 enum-told-6 : tie.Need-enum-told-6
 enum-told-6 c = search needs
 
+answer-sheet-requires : tie.Need-answer-sheet-requires
+answer-sheet-requires c κs = search needs
+
 enum-told-7 : tie.Need-enum-told-7
 enum-told-7 c = search needs
 
+answer-board-requires : tie.Need-answer-board-requires
+answer-board-requires c κs = search needs
+
 enum-told-8 : tie.Need-enum-told-8
 enum-told-8 c = search needs
+
+enum-told-9 : tie.Need-enum-told-9
+enum-told-9 c = search needs
+
+enum-told-10 : tie.Need-enum-told-10
+enum-told-10 c = search needs
 
 same-length : tie.Need-same-length
 same-length c = search needs
@@ -91,17 +103,35 @@ same-length-10 c = search needs
 returns-5 : tie.Need-returns-5
 returns-5 c = shows-answer (asked-as _ _ (c .before .before .before .before .before .enum-told5 .given .1)) (c .before .before .answer-thin .ensures)
 
+same-length-11 : tie.Need-same-length-11
+same-length-11 c = search needs
+
+same-length-12 : tie.Need-same-length-12
+same-length-12 c = search needs
+
 returns-6 : tie.Need-returns-6
-unfolding answerBy
-returns-6 c = shows-none (asked-as _ _ (c .enum-told6 .given .1)) (search needs)
+returns-6 c = shows-answer (asked-as _ _ (c .before .before .before .before .before .enum-told6 .given .1)) (c .before .before .answer-sheet .ensures)
+
+same-length-13 : tie.Need-same-length-13
+same-length-13 c = search needs
+
+same-length-14 : tie.Need-same-length-14
+same-length-14 c = search needs
 
 returns-7 : tie.Need-returns-7
-unfolding answerBy
-returns-7 c = shows-none (asked-as _ _ (c .enum-told7 .given .1)) (search needs)
+returns-7 c = shows-answer (asked-as _ _ (c .before .before .before .before .before .before .before .enum-told7 .given .1)) (c .before .before .before .before .answer-board .ensures)
 
 returns-8 : tie.Need-returns-8
 unfolding answerBy
 returns-8 c = shows-none (asked-as _ _ (c .enum-told8 .given .1)) (search needs)
+
+returns-9 : tie.Need-returns-9
+unfolding answerBy
+returns-9 c = shows-none (asked-as _ _ (c .enum-told9 .given .1)) (search needs)
+
+returns-10 : tie.Need-returns-10
+unfolding answerBy
+returns-10 c = shows-none (asked-as _ _ (c .enum-told10 .given .1)) (search needs)
 
 pub answer-by-spec : {M : Type 1} → statement M
 answer-by-spec =
@@ -118,8 +148,12 @@ answer-by-spec =
     enum-told-5
     answer-thin-requires
     enum-told-6
+    answer-sheet-requires
     enum-told-7
+    answer-board-requires
     enum-told-8
+    enum-told-9
+    enum-told-10
     same-length
     same-length-2
     returns
@@ -135,6 +169,12 @@ answer-by-spec =
     same-length-9
     same-length-10
     returns-5
+    same-length-11
+    same-length-12
     returns-6
+    same-length-13
+    same-length-14
     returns-7
-    returns-8)
+    returns-8
+    returns-9
+    returns-10)
