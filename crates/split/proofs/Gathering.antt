@@ -1,16 +1,22 @@
 -- Words gathered in a row, one after another.
 use Prim.Native.Nat.{ℕ, _+_, _-_, _<_, _≤_}
 use native.Mathlib.Omega.{arith}
-use mathlib.Core.Path.{_≡_, refl, ap, sym, _∙_}
+use mathlib.Core.Path.{_≡_, refl, ap, sym, _∙_, subst}
 use mathlib.Core.List.{List, [], _∷_, _++_}
 use lib.ListN.{length, take, drop, length-append}
 use lib.Seq.{sets, sets-eq, take-at, length-take-le}
 use Rattle.writers.specs.Written.{Writes}
 use Rattle.writers.proofs.Writing.{writes-length}
-use Rattle.command_line.specs.WordRow.{rowOf}
+use Rattle.command_line.specs.WordRow.{rowOf, EachEnded}
 use Rattle.command_line.proofs.Rows.{row-snoc}
+use Rattle.command_line.proofs.Ending.{row-ended}
+use Rattle.split.specs.declared.Gathered.{Gathered}
 use Rattle.split.specs.declared.Gathered.the-variants.{Words, TooLong}
 use Rattle.split.specs.Gathered.{Gathers}
+
+-- what is gathered is a row of words
+pub gathered-ended : {words n : ℕ} {r : Gathered} {row : List ℕ} → Gathers words r row → r ≡ Words n → EachEnded (take n row)
+gathered-ended {n = n} g e = let w = g .gathered n e in subst EachEnded (sym (w .lie)) (row-ended (w .ws))
 
 -- the words before word i lie in the first n bytes
 pub record Gathering (words : ℕ) (row : List ℕ) (n i : ℕ) : Type 0 where

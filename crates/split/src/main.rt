@@ -1,11 +1,11 @@
-// The program: what the words of its command line ask for, on the text on standard input.
+// The program: what the words of its command line ask for, on the text, or the sheet, on standard input.
 ghost use Prim.Native.Nat.{_+_, _≤_, _<_};
 ghost use mathlib.Core.Path.{_≡_};
 ghost use mathlib.Core.List.{[], _∷_, _++_};
 ghost use lib.ListN.{length};
 ghost use Rattle.io.specs.Counts.{Counts};
 ghost use Rattle.writers.specs.Written.{Writes};
-ghost use Rattle.command_line.specs.WordRow.{wordsIn};
+ghost use Rattle.command_line.specs.WordRow.{wordsIn, EachEnded};
 ghost use Rattle.replies.specs.declared.Reply.the-variants as R;
 ghost use Rattle.replies.specs.Replies.{replyAsked};
 ghost use Rattle.split.specs.Gathered.{Gathers};
@@ -25,7 +25,7 @@ use replies::Reply;
 use replies::reply_asked;
 use writers::write_bytes;
 
-// One byte more than a text may have is read, so that a longer one is refused.
+// One byte more than a text or a sheet may have is read, so that a longer one is refused.
 const TEXT_ROOM: usize = MAX_TEXT + 1;
 
 // Linux by default hands over 2 MB of words, eight bytes of it for each word's place: so much holds any list of names.
@@ -74,7 +74,7 @@ fn read_text(text: &mut [u8]) -> usize
 
 // Words of a service have an answer, whatever the text (`served`).
 fn serve(words: &mut [u8])
-    requires { ⌜ replyAsked (wordsIn (now words)) ≡ R.Service ⌝ }
+    requires { ⌜ (replyAsked (wordsIn (now words)) ≡ R.Service) × EachEnded (now words) ⌝ }
 {
     let mut text = [0u8; TEXT_ROOM];
     let n = read_text(&mut text);
@@ -110,7 +110,9 @@ fn explain(words: &[u8], refusal: usize)
     );
 }
 
-fn respond(words: &mut [u8]) {
+fn respond(words: &mut [u8])
+    requires { ⌜ EachEnded (now words) ⌝ }
+{
     let reply = reply_asked(words);
     match reply {
         Reply::Usage(number) => tell_wrong(words, number),

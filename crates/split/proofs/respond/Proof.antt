@@ -35,7 +35,7 @@ enum-told-3 : tie.Need-enum-told-3
 enum-told-3 c = search needs
 
 serve-requires : tie.Need-serve-requires
-serve-requires c κs = sym (c .before .before .before .reply-asked .ensures) ∙ c .before .enum-told3 .given .1
+serve-requires c κs = (sym (c .before .before .before .reply-asked .ensures) ∙ c .before .enum-told3 .given .1, search needs)
 
 same-length : tie.Need-same-length
 same-length c = search needs

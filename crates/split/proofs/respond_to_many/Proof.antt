@@ -2,6 +2,7 @@
 use mathlib.Core.Path.{sym}
 use lib.Seq.{length-take-le}
 use borrow.Author.Needs.{needs}
+use Rattle.split.proofs.Gathering.{gathered-ended}
 use Rattle.split.proofs.respond_to_many.Statement.{statement}
 use Rattle.split.proofs.respond_to_many.Tie as tie
 
@@ -24,7 +25,7 @@ slice-aggregate-respond : tie.Need-slice-aggregate-respond
 slice-aggregate-respond c = sym (length-take-le _ _ (c .before .before .before .before .before .gather .ensures .within _ (c .before .before .gathered .given .1)))
 
 respond-requires : tie.Need-respond-requires
-respond-requires c κs = search needs
+respond-requires c κs = gathered-ended (c .before .before .before .before .before .gather .ensures) (c .before .before .gathered .given .1)
 
 enum-told : tie.Need-enum-told
 enum-told c = search needs
