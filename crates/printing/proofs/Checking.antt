@@ -91,7 +91,9 @@ module _ {A : Type 0} (c : Checked A) (written : A → List ℕ) (fits : (v : A)
 -- ---- the sheet of a text
 
 check-fits : (s : List ℕ) (v : Input) → asFarAs12 s ≡ passed v → length (sheet v) ≤ 32768
-check-fits s v e = demand2 s .shown v (demand2 s .as-far-as-12 .passes v .0 e) .fits
+check-fits s v e =
+    let says = demand2 s .shown v (demand2 s .as-far-as-12 .passes v .0 e) .says in
+    omega (arith, ap length (says .0), says .1 .size)
 
 module _ (s out : List ℕ) (h : length out ≡ 32768) {a : Checked ℕ} {left : List ℕ} where
   pub check-left : (a ≡ check s out .answer) × (left ≡ check s out .left) → FitsBuffer a

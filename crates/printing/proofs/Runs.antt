@@ -87,7 +87,7 @@ comes s es = go (verdict12 s)
 abbrev RunMachines : Checked Ran → ℕ → Type 0
 RunMachines c n = (a : Ran) → c ≡ passed a → (length (a .places) ≡ n) × (n ≤ 16)
 
-pub text-machines : (s es : List ℕ) {n : ℕ} → MachinesOf s n → RunMachines (running s es) n
+text-machines : (s es : List ℕ) {n : ℕ} → MachinesOf s n → RunMachines (running s es) n
 text-machines s es {n} known a p = go (comes s es)
   where
     go : Comes s es → (length (a .places) ≡ n) × (n ≤ 16)
@@ -99,7 +99,7 @@ text-machines s es {n} known a p = go (comes s es)
 abbrev boarding : List ℕ → List ℕ → Checked Ran
 boarding s t = readSheet s >>= λ b. runBoard b t
 
-pub sheet-machines : (s t : List ℕ) {n : ℕ} → ((b : Board) → readSheet s ≡ passed b → n ≡ length b) → RunMachines (boarding s t) n
+sheet-machines : (s t : List ℕ) {n : ℕ} → ((b : Board) → readSheet s ≡ passed b → n ≡ length b) → RunMachines (boarding s t) n
 unfolding runNames startPlaces
 sheet-machines s t {n} known a p = go (readSheet s) refl p
   where

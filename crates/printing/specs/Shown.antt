@@ -29,7 +29,7 @@ lentLine lent (passed n) left = cond (leb n lent) (take n left) (writtenRefusal 
 
 -- ---- a run
 
--- how many machines are in use, unless it is refused
+-- no more machines are in use than have a place, unless it is refused
 pub record FewMachines (o : Outcome) (machines : ℕ) : Type 0 where
   pub few : ((r : Refusal) → ¬ (o ≡ refusedBy r)) → machines ≤ 16
 
