@@ -22,7 +22,7 @@ slice-aggregate-answer-2 : tie.Need-slice-aggregate-answer-2
 slice-aggregate-answer-2 c = search needs
 
 answer-requires : tie.Need-answer-requires
-answer-requires c κs = search needs
+answer-requires c κs = (search needs, c .before .before .before .before .before .before .before .pre .1)
 
 array-share-prefix-out : tie.Need-array-share-prefix-out
 array-share-prefix-out c = shown-within (c .before .before .before .answer .ensures)
