@@ -7,14 +7,13 @@ use lib.ListN.{length}
 use lib.Seq.{sets}
 use Rattle.model.specs.declared.Refusal.the-variants.{BadSheet, BufferTooShort}
 use Rattle.model.specs.Cases.{tabled}
-use Rattle.model.specs.Refusal.{Refusal, refuse, Checked, refused, passed, _>>=_}
-use Rattle.model.specs.Sheet.{Board, writtenSheet}
+use Rattle.model.specs.Refusal.{refuse, Checked, refused, passed}
+use Rattle.model.specs.Sheet.{Board}
 use Rattle.model.specs.Services.{RunAnswer, ranAnswer, lend}
 use Rattle.model.specs.Board.{readSheet, rewrite, startPlaces, boardRun}
 use Rattle.model.proofs.BoardCalls.{loading}
 use Rattle.model.proofs.Verdicts.{refused-passed, same-passed}
 use Rattle.rows.specs.Rows.{row}
-use Rattle.regions.specs.Moves.{MoveRows}
 use Rattle.sheet_reader.specs.declared.SheetRead.{SheetRead}
 use Rattle.sheet_reader.specs.declared.SheetRead.the-variants.{Bad, Read}
 use Rattle.sheet_reader.specs.Lent.{Lent}
@@ -23,7 +22,7 @@ use Rattle.sheet_reader.specs.Sheets.{SheetLeft, ReadsSheet}
 use Rattle.answers.specs.declared.Answer.{Answer}
 use Rattle.answers.specs.declared.Answer.the-variants as A
 use Rattle.answers.specs.Answers.{answered}
-use Rattle.answers.proofs.Lending.{Lends, lends-short, lends-written}
+use Rattle.answers.proofs.Lending.{lends-short, lends-written}
 use Rattle.product.specs.declared.RunAnswer as D
 use Rattle.product.specs.Answers.{runAnswer}
 use Rattle.board_service.specs.Boards.{Loaded, RunsNames, RunsBoard}

@@ -3,7 +3,7 @@ use Prim.Native.Nat.{ℕ, zero, suc, _+_, _-_, _<_, _≤_}
 use native.Mathlib.Omega.{arith}
 use mathlib.Core.Path.{_≡_, refl, ap, ap₂, sym, _∙_, subst}
 use mathlib.Core.Logic.{_⊎_, inl, inr}
-use mathlib.Core.Bool.{Bool, not, cond, _&&_}
+use mathlib.Core.Bool.{not, _&&_}
 use mathlib.Core.List.{List, [], _∷_, _++_, map}
 use mathlib.Core.Option.{Option, none, some}
 use lib.Dec.{T}
@@ -12,19 +12,19 @@ use lib.Seq.{sets-eq, take-at}
 use Rattle.model.specs.declared.Refusal.the-variants.{UnknownEvent}
 use Rattle.model.specs.Cases.{tabled}
 use Rattle.model.specs.Lists.{every, index, isEmpty, numbers, Pairwise}
-use Rattle.model.specs.Refusal.{refuse, refused, passed}
+use Rattle.model.specs.Refusal.{refused, passed}
 use Rattle.model.specs.Product.{Move, Ran, effective, runFrom}
 use Rattle.model.specs.Bytes.{Name}
 use Rattle.model.specs.Text.{eventNumber}
 use Rattle.model.specs.Sheet.{NamedLine, Board}
 use Rattle.model.specs.Services.{RunAnswer, ranAnswer, padded, outcomeOf, whole, blocked}
-use Rattle.model.specs.Board.{moveOn, startPlaces, splitNames, runNames, runBoard}
+use Rattle.model.specs.Board.{moveOn, startPlaces, runNames, runBoard}
 use Rattle.model.proofs.Laws.{dec, order, contra, T-true, T-false, and-l, and-r}
 use Rattle.model.proofs.Together.{SameMoves, same-run, run-stops, run-goes}
 use Rattle.model.proofs.BoardNames.{names-end, names-more}
 use Rattle.rows.specs.Rows.{row}
 use Rattle.regions.specs.Moves.{moveAt}
-use Rattle.sheet_reader.specs.Lent.{Lent, lentRows}
+use Rattle.sheet_reader.specs.Lent.{Lent}
 use Rattle.sheet_reader.specs.Lines.{Told}
 use Rattle.product.specs.declared.Outcome.the-variants.{Whole, Blocked}
 use Rattle.product.specs.declared.Stepped.{Stepped}
@@ -38,7 +38,7 @@ use Rattle.board_service.specs.declared.running.OddName.{OddName}
 use Rattle.board_service.specs.declared.running.OddName.the-variants as O
 use Rattle.board_service.specs.Listed.{ReadsName}
 use Rattle.board_service.specs.Boards.{namesFrom, oddFrom, answerOf, Loaded, oddIs, FindsOdd, EndsBlocked, RunsNames}
-use Rattle.board_service.proofs.Knowing.{on-name, off-name, same-moves, on-rows}
+use Rattle.board_service.proofs.Knowing.{off-name, same-moves, on-rows}
 use Rattle.board_service.proofs.Seeking.{known-name, own-name, seek-more, seek-odd, seek-end}
 
 -- ---- the row of the start places

@@ -3,18 +3,18 @@ use Prim.Native.Nat.{ℕ, suc, _+_, _<_, _≤_}
 use native.Mathlib.Omega.{arith}
 use mathlib.Core.Path.{_≡_, refl, ap, sym, _∙_, subst}
 use mathlib.Core.Logic.{_⊎_, inl, inr}
-use mathlib.Core.Bool.{Bool, not, cond, _&&_}
-use mathlib.Core.List.{List, [], _∷_}
+use mathlib.Core.Bool.{Bool, not, _&&_}
+use mathlib.Core.List.{List, _∷_}
 use mathlib.Core.Option.{none, some}
 use lib.Dec.{T}
-use lib.ListN.{length, drop, length-drop, drop-of-length-le}
+use lib.ListN.{length, length-drop, drop-of-length-le}
 use Rattle.model.specs.Lists.{every, index, isEmpty}
 use Rattle.model.specs.Product.{effective}
 use Rattle.model.specs.Bytes.{Name}
 use Rattle.model.specs.Reading.{fail, got}
 use Rattle.model.specs.Text.{eventNumber}
 use Rattle.model.specs.Sheet.{Board}
-use Rattle.model.specs.Board.{moveOn, splitNames}
+use Rattle.model.specs.Board.{moveOn}
 use Rattle.model.proofs.Laws.{T-true, T-false}
 use Rattle.model.proofs.BoardNames.{nameForm, names-end, names-more, names-odd}
 use Rattle.sheet_reader.specs.Lent.{Lent, lentRows}

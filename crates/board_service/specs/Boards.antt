@@ -1,10 +1,9 @@
 -- A list of names on the machines of a sheet.
-use Prim.Native.Nat.{ℕ, _+_, _≤_}
+use Prim.Native.Nat.{ℕ, _+_}
 use mathlib.Core.Path.{_≡_}
 use mathlib.Core.Bool.{not, cond, _&&_}
 use mathlib.Core.List.{List, []}
 use mathlib.Core.Option.{Option, none, some}
-use lib.Dec.{T}
 use lib.ListN.{length, drop}
 use Rattle.model.specs.Lists.{every, index, isEmpty}
 use Rattle.model.specs.Refusal.{refuse, refused, passed}

@@ -125,8 +125,7 @@ pub fn next_name<'a>(
     if names.len() - at < 17 {
         return read_words(names, at, len, high, low, count, hints);
     }
-    let QuickName::Verified { event, next } =
-        verified_name(names, at, len, high, low, count, hints)
+    let QuickName::Verified { event, next } = verified_name(names, at, len, high, low, count, hints)
     else {
         return read_words(names, at, len, high, low, count, hints);
     };

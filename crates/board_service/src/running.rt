@@ -1,6 +1,5 @@
 // A list of names on the machines of a sheet: each is looked up and run at once. After a block the others are only looked up, since one that is odd turns the
 // answer into 14.
-ghost use mathlib.Core.Path.{_≡_};
 ghost use Prim.Native.Nat.{_+_, _<_, _≤_};
 ghost use lib.ListN.{length};
 ghost use Rattle.regions.specs.Moves.{MoveRows};

@@ -1,8 +1,8 @@
 -- A move into the rows, by the ways out of the code.
-use Prim.Native.Nat.{ℕ, _+_, _*_, _<_, _≤_}
+use Prim.Native.Nat.{ℕ, _+_, _<_, _≤_}
 use native.Mathlib.Omega.{arith}
 use mathlib.Core.Path.{_≡_, refl, ap, sym, _∙_, subst}
-use mathlib.Core.Bool.{Bool, true, false, not, cond, _&&_}
+use mathlib.Core.Bool.{Bool, true, false, not, _&&_}
 use mathlib.Core.List.{List, [], _∷_, _++_, map, List·Memᴰ, List·Memᴰ·append-cases, List·Memᴰ·eq-of-singleton}
 use mathlib.Core.Logic.{_⊎_, inl, inr}
 use mathlib.Core.Option.{Option, none, some}
@@ -14,14 +14,14 @@ use Rattle.model.specs.Bytes.{Name, IsName, OneEvent, sameName}
 use Rattle.model.specs.Text.{eventNumber, distinct}
 use Rattle.model.specs.Sheet.{NamedMove}
 use Rattle.model.specs.Board.{isGoodMove, addName}
-use Rattle.model.proofs.Laws.{T-true, T-false, not-T, and-l, and-r, and-i, not-below, contra}
+use Rattle.model.proofs.Laws.{T-true, T-false, not-T, and-l, and-r, not-below}
 use Rattle.model.proofs.ListLaws.{map-append, sets-snoc}
 use Rattle.model.proofs.OneEvent.{one-among}
 use Rattle.model.proofs.SheetNames.{apart-snoc, distinct-apart, apart-distinct}
 use Rattle.lexer.specs.Words as Words
 use Rattle.rows.specs.Rows.{row}
 use Rattle.regions.specs.Moves.{moveAt}
-use Rattle.names.specs.Held.{PackedNames, Finds}
+use Rattle.names.specs.Held.{Finds}
 use Rattle.sheet_lines.specs.declared.MoveWords.{MoveWords}
 use Rattle.sheet_reader.specs.declared.moves.Added.{Added}
 use Rattle.sheet_reader.specs.BoardRows.{Rows, cell, moveIn, storeMove}

@@ -1,31 +1,29 @@
 -- The rows that a board keeps, move by move: a line is stored exactly if it is good.
-use Prim.Native.Nat.{ℕ, zero, suc, _+_, _*_, _≤_, _<_}
+use Prim.Native.Nat.{ℕ, suc, _+_, _≤_, _<_}
 use native.Mathlib.Omega.{arith}
 use mathlib.Core.Path.{_≡_, refl, ap, sym, _∙_, subst}
-use mathlib.Core.Logic.{_⊎_, inl, inr, _↔_}
+use mathlib.Core.Logic.{_⊎_, inl, inr}
 use mathlib.Core.Bool.{Bool, true, false, not, cond, _&&_, _||_}
-use mathlib.Core.List.{List, [], _∷_, _++_, map, flatMap, append-assoc, append-nil, List·Memᴰ, List·Memᴰ·head, List·Memᴰ·tail}
-use mathlib.Core.Option.{Option, none, some, Option·map, Option·some-injective, Option·none-ne-some, Option·some-ne-none}
-use lib.Dec.{T, eqb, eqb→eq, ltb, leb, ltb→lt, lt→ltb, nltb→le, leb→le, le→leb, nleb→lt}
+use mathlib.Core.List.{List, [], _∷_, _++_, flatMap, append-nil, List·Memᴰ, List·Memᴰ·head, List·Memᴰ·tail}
+use mathlib.Core.Option.{Option, none, some, Option·map, Option·none-ne-some, Option·some-ne-none}
+use lib.Dec.{T, eqb, eqb→eq, ltb, ltb→lt, lt→ltb}
 use lib.ListN.{length, getD, set, length-append, length-set}
 use lib.Seq.{getD-set-same, getD-set-other}
-use Rattle.model.specs.Lists.{At, exists, every, first, index, isSome}
-use Rattle.model.specs.TransitionSystem.{andThen}
+use Rattle.model.specs.Lists.{At, exists, first, index, isSome}
 use Rattle.model.specs.Product.{Move}
 use Rattle.model.specs.Bytes.{Name, OneEvent, sameName}
-use Rattle.model.specs.Text.{eventNumber, distinct}
+use Rattle.model.specs.Text.{eventNumber}
 use Rattle.model.specs.Sheet.{NamedMove, NamedLine, Board}
 use Rattle.model.specs.Board.{isGoodMove, addName, addNames, namesOn, moveOn}
 use Rattle.model.specs.BoardTable.{OnLine}
 use Rattle.regions.specs.Moves.{moveAt}
-use Rattle.sheet_reader.specs.BoardRows.{Rows, cell, moveIn, storeMove, storeMoves, TellsBoard}
-use Rattle.model.proofs.Laws.{dec, order, eqb-of, isSome-none, none-isSome, T-true, T-false, not-T, contra, and-l, and-r, and-i, and-not, cond-true, cond-false}
-use Rattle.model.proofs.ListLaws.{flatMap-append, map-append, map-mem}
-use Rattle.model.proofs.Positions.{at-left, at-below, at-mem, mem-at, at-same, at-getD, index-below, index-passes, left-at, at-middle}
+use Rattle.sheet_reader.specs.BoardRows.{Rows, cell, moveIn, storeMove, TellsBoard}
+use Rattle.model.proofs.Laws.{dec, eqb-of, isSome-none, none-isSome, T-true, not-T, contra, and-l, and-r, and-i, cond-true, cond-false}
+use Rattle.model.proofs.ListLaws.{flatMap-append}
+use Rattle.model.proofs.Positions.{at-left, at-below, at-mem, at-same, at-getD, index-below, index-passes, at-middle}
 use Rattle.model.proofs.Sheets.{at-snoc}
-use Rattle.model.proofs.OneEvent.{one-of, of-one, one-refl, one-sym, one-trans, one-among, among-one}
-use Rattle.model.proofs.SheetNames.{Table, Apart, apart-snoc, names-table, of-moves}
-use Rattle.model.proofs.GoodLines.{map-at}
+use Rattle.model.proofs.OneEvent.{one-of, of-one, one-refl, one-sym, one-trans, among-one}
+use Rattle.model.proofs.SheetNames.{Apart, names-table, of-moves}
 use Rattle.model.proofs.SheetMoves.{MoveOnView, moved, stayed, move-on}
 
 -- ---- cells

@@ -5,7 +5,7 @@ use mathlib.Core.Path.{_≡_, refl, ap, sym, _∙_, subst}
 use mathlib.Core.Bool.{Bool, true, false, not, _&&_}
 use mathlib.Core.List.{List, [], _∷_, _++_, map}
 use mathlib.Core.Option.{Option, none, some}
-use lib.Dec.{T, T-not, eqb, leb, ltb, eqb→eq, leb→le, le→leb}
+use lib.Dec.{T, T-not, eqb, leb, ltb, leb→le, le→leb}
 use lib.ListN.{length}
 use Rattle.model.specs.Lists.{every}
 use Rattle.model.specs.Bytes.{bytes, Name}
@@ -13,7 +13,7 @@ use Rattle.model.specs.Reading.{Parsed, fail, got, after, litBytes, figure, ite
 use Rattle.model.specs.Text.{distinct}
 use Rattle.model.specs.Sheet.{NamedMove, NamedLine, Board, moveForm, lineForm}
 use Rattle.model.specs.Board.{isGoodMove, addNames, namesOn, isGoodLine}
-use Rattle.model.proofs.Laws.{and-l, and-r, and-i, eqb-of}
+use Rattle.model.proofs.Laws.{and-l, and-r, and-i}
 use Rattle.model.proofs.SheetNames.{distinct-apart, apart-distinct}
 use Rattle.lexer.proofs.Joining.{after-both}
 use Rattle.sheet_lines.specs.declared.HeadWords.{HeadWords}

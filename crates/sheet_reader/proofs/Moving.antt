@@ -4,11 +4,11 @@ use native.Mathlib.Omega.{arith}
 use mathlib.Core.Path.{_≡_, refl, ap, sym, _∙_, subst}
 use mathlib.Core.Bool.{Bool, true, false, not}
 use lib.Dec.{T, T-not}
-use mathlib.Core.List.{List, [], _∷_}
+use mathlib.Core.List.{List, []}
 use mathlib.Core.Option.{Option, none, some}
 use lib.ListN.{length, getD}
 use Rattle.model.specs.TransitionSystem.{andThen}
-use Rattle.model.specs.Bytes.{Name, IsName}
+use Rattle.model.specs.Bytes.{Name}
 use Rattle.model.specs.Reading.{Parsed, fail, got, many}
 use Rattle.model.specs.Text.{eventNumber}
 use Rattle.model.specs.Sheet.{NamedMove, writtenMove, moveForm}
@@ -26,7 +26,6 @@ use Rattle.sheet_lines.specs.Moves.{asMove}
 use Rattle.sheet_reader.specs.declared.moves.Added.{Added}
 use Rattle.sheet_reader.specs.declared.moves.NextMove.{NextMove}
 use Rattle.sheet_reader.specs.declared.moves.NextMove.the-variants.{Missing, Bad, Stored}
-use Rattle.sheet_reader.specs.declared.moves.MovesAt.{MovesAt}
 use Rattle.sheet_reader.specs.BoardRows.{Rows, storeMove, storeMoves}
 use Rattle.sheet_reader.specs.Lent.{Lent, lentRows, rowsOf, Held, Holding, HoldsRows}
 use Rattle.sheet_reader.specs.Storing.{StoresMove, Leaves, IsWord, moveOf, AddsMove, MoveLeft, countIn, ReadsMove, LeavesMoves, ReadsMoves}

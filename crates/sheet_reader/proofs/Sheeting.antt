@@ -1,30 +1,26 @@
 -- The whole sheet: the loop's invariant and its ways out.
-use Prim.Native.Nat.{ℕ, zero, suc, _+_, _-_, _*_, _≤_, _<_}
+use Prim.Native.Nat.{ℕ, zero, suc, _+_, _-_, _≤_, _<_}
 use native.Mathlib.Omega.{arith}
 use mathlib.Core.Path.{_≡_, refl, ap, sym, _∙_, subst}
-use mathlib.Core.Logic.{_⊎_, inl, inr}
-use mathlib.Core.Bool.{Bool, true, false, not, cond, _&&_}
+use mathlib.Core.Bool.{Bool, true, false, not, _&&_}
 use mathlib.Core.List.{List, [], _∷_, _++_, map, flatMap}
-use mathlib.Core.Option.{Option, none, some, Option·none-ne-some}
+use mathlib.Core.Option.{none, Option·none-ne-some}
 use lib.Dec.{T, T-not, leb, ltb, ltb→lt, leb→le, le→leb, eqb}
 use lib.ListN.{length, getD, set, replicate, length-append, length-map, length-replicate}
 use lib.Seq.{sets}
-use Rattle.model.specs.Lists.{At, every}
-use Rattle.model.specs.Refusal.{Refusal, refuse, Checked, refused, passed, need, _>>_}
-use Rattle.model.specs.Bytes.{Name}
+use Rattle.model.specs.Lists.{every}
+use Rattle.model.specs.Refusal.{refuse, refused, passed, need, _>>_}
 use Rattle.model.specs.Reading.{Parsed, fail, got}
 use Rattle.model.specs.Text.{distinct}
 use Rattle.model.specs.Sheet.{NamedMove, NamedLine, Board, countForm, lineForm}
 use Rattle.model.specs.Board.{isGoodMove, addNames, namesOn, isGoodLine, machineThen, machinesFrom, countThen, readSheet, startPlaces}
-use Rattle.model.proofs.Laws.{T-true, T-false, not-T, and-l, and-r, and-i, order, not-below}
+use Rattle.model.proofs.Laws.{T-true, T-false, not-T, and-l, and-r}
 use Rattle.model.proofs.ListLaws.{map-append, sets-snoc}
 use Rattle.rows.specs.Rows.{row}
-use Rattle.names.specs.Held.{PackedNames}
 use Rattle.sheet_reader.specs.declared.machine_line.LineAt.{LineAt}
-use Rattle.sheet_reader.specs.declared.SheetRead.{SheetRead}
 use Rattle.sheet_reader.specs.declared.SheetRead.the-variants.{Bad, Read}
 use Rattle.regions.specs.Moves.{moveAt}
-use Rattle.sheet_reader.specs.BoardRows.{cell, moveIn, TellsBoard}
+use Rattle.sheet_reader.specs.BoardRows.{cell, moveIn}
 use Rattle.sheet_reader.specs.Lent.{Lent, lentRows, rowsOf, Holding}
 use Rattle.sheet_reader.specs.Lines.{Told, LineLeft, good, bad, ReadsLine}
 use Rattle.sheet_reader.specs.Sheets.{FreshBoard, SheetLeft, ReadsSheet}

@@ -3,7 +3,7 @@ use Prim.Native.Nat.{ℕ, _≤_}
 use mathlib.Core.Path.{_≡_}
 use mathlib.Core.List.{List, []}
 use lib.ListN.{length, replicate}
-use Rattle.model.specs.Refusal.{Refusal, refuse, Checked, refused, passed}
+use Rattle.model.specs.Refusal.{refuse, Checked, refused, passed}
 use Rattle.model.specs.Sheet.{Board}
 use Rattle.model.specs.Board.{readSheet, startPlaces}
 use Rattle.rows.specs.Rows.{row}

@@ -1,5 +1,4 @@
 // Reads a sheet into rows: the names on it, and the moves by event and machine. Document 02, slip 1.
-ghost use mathlib.Core.Path.{_≡_};
 ghost use Rattle.sheet_reader.specs.Lent.{lentRows};
 ghost use Rattle.sheet_reader.specs.Sheets.{FreshBoard, ReadsSheet};
 use lexer::Word;

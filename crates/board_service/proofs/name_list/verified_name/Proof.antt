@@ -28,7 +28,7 @@ add-t17 c = search needs
 
 returns : tie.Need-returns
 unfolding NameGuessed
-returns c = 
+returns c =
     verified _ _ _ _ _ _ _ _ _ _ (c .before .before .before .before .before .before .before .pre) (c .before .before .before .before .before .guess-size .ensures) (c .before .before .before .before .pack-name .ensures) _ _ (c .before .is-byte .ensures) (c .before .before .is-name-at .ensures) (c .if1 .taken)
 
 returns-2 : tie.Need-returns-2

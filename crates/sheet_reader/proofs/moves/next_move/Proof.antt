@@ -3,7 +3,6 @@ use native.Mathlib.Omega.{arith}
 use mathlib.Core.Path.{subst}
 use borrow.Author.Tests.{not-true, not-false}
 use denote.Ref.{now}
-use Rattle.quick_move.specs.declared.QuickMove.{QuickMove}
 use Rattle.quick_move.specs.Quick as Quick
 use Rattle.sheet_reader.proofs.Moving.{quick-bad, quick-stored}
 use borrow.Author.Needs.{needs}
