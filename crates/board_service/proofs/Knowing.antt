@@ -24,7 +24,8 @@ use Rattle.model.proofs.SheetMoves.{on-sheet, sheet-on}
 use Rattle.regions.specs.Moves.{moveAt}
 use Rattle.sheet_reader.specs.Lent.{Lent, rowsOf}
 use Rattle.sheet_reader.specs.Lines.{Told}
-use Rattle.sheet_reader.proofs.BoardRows.{Looked, old, new, looked, on-among}
+use Rattle.sheet_reader.proofs.LineMoves.{Looked, old, new, looked}
+use Rattle.sheet_reader.proofs.BoardRows.{on-among}
 use Rattle.product.specs.Stepping.{IsOn}
 
 -- one event has one move on a machine

@@ -2,10 +2,10 @@
 use Prim.Native.Nat.{ℕ, zero, suc, _+_, _*_, _<_, _≤_}
 use native.Mathlib.Omega.{arith}
 use mathlib.Core.Path.{_≡_, refl, ap, _∙_}
-use mathlib.Core.List.{List, _++_}
+use mathlib.Core.List.{List}
 use mathlib.Core.Option.{none}
-use lib.ListN.{length, take, drop}
-use lib.Seq.{sets, sets-eq, take-suc, take-length}
+use lib.ListN.{length, take}
+use lib.Seq.{take-suc, take-length}
 use Rattle.model.specs.Lists.{At}
 use Rattle.model.specs.TransitionSystem.{TransitionSystem}
 use Rattle.model.specs.Machine.{Machine, placeOf, move, machinesRefusal}

@@ -27,7 +27,7 @@ use Rattle.sheet_reader.specs.declared.moves.Added.{Added}
 use Rattle.sheet_reader.specs.BoardRows.{Rows, cell, moveIn, storeMove}
 use Rattle.sheet_reader.specs.Lent.{Lent, lentRows, rowsOf, Held, HoldsRows}
 use Rattle.sheet_reader.specs.Storing.{goodEnds, StoresMove, Leaves, IsWord, moveOf, AddsMove}
-use Rattle.sheet_reader.proofs.BoardRows.{Looked, old, new, looked}
+use Rattle.sheet_reader.proofs.LineMoves.{Looked, old, new, looked}
 
 -- ---- by the event's number
 

@@ -1,6 +1,7 @@
 -- The laws of crate `sheet_reader`.
 
--- names and moves that a board keeps: one move more, and the moves of a line
+-- a line with one move more; names and moves that a board keeps, with one move more and with the moves of a line
+pub mod LineMoves
 pub mod BoardRows
 pub mod LineRows
 -- a move and the moves of a line into the rows, by the ways out of the code

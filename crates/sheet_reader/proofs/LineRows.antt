@@ -21,7 +21,8 @@ use Rattle.model.proofs.Sheets.{at-snoc}
 use Rattle.model.proofs.OneEvent.{one-sym, one-among}
 use Rattle.model.proofs.SheetNames.{Apart, apart-snoc}
 use Rattle.model.proofs.GoodLines.{map-at}
-use Rattle.sheet_reader.proofs.BoardRows.{with, names-last, Looked, old, new, looked, Follows, Stored, fits, stops, store-step, names-more}
+use Rattle.sheet_reader.proofs.LineMoves.{with, names-last, Looked, old, new, looked}
+use Rattle.sheet_reader.proofs.BoardRows.{Follows, Stored, fits, stops, store-step, names-more}
 
 add-grows : (ns : List Name) (ys : List NamedMove) → length ns ≤ length (addNames ns ys)
 unfolding addNames

@@ -26,7 +26,7 @@ use Rattle.sheet_reader.specs.BoardRows.{Rows, storeMoves, TellsBoard}
 use Rattle.sheet_reader.specs.Lent.{Lent, rowsOf, HoldsRows}
 use Rattle.sheet_reader.specs.Storing.{LeavesMoves, ReadsMoves}
 use Rattle.sheet_reader.specs.Lines.{Told, LineLeft, good, bad, ReadsLine}
-use Rattle.sheet_reader.proofs.BoardRows.{names-last}
+use Rattle.sheet_reader.proofs.LineMoves.{names-last}
 use Rattle.sheet_reader.proofs.LineRows.{eventOf, Line, LineStored, all-fit, one-stops, store-line}
 
 -- ---- the line's head first
