@@ -105,10 +105,10 @@ fn answer_sheet(words: &[u8], sheet: &[u8], out: &mut [u8]) -> usize
     requires { ⌜ length (now out) ≡ 32768 ⌝ }
     ensures { λ r. ⌜ Shows (outputOf (answerBy Sheet (wordsIn (now (words .entry))) (now (sheet .entry)))) r (now (out .exit)) ⌝ }
 {
-    let Said::Number(lent) = size_said(words, MAX_TEXT) else {
+    let Said::Number(room) = size_said(words, MAX_TEXT) else {
         return 0;
     };
-    print_sheet(sheet, lent, out)
+    print_sheet(sheet, room, out)
 }
 
 // The names take the place of the words: as many bytes, since byte 10 ends a name where byte 0 ended a word.

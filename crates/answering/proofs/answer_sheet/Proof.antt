@@ -9,8 +9,8 @@ use Rattle.answering.proofs.answer_sheet.Tie as tie
 size-said-requires : tie.Need-size-said-requires
 size-said-requires c κs = search needs
 
-enum-known-lent : tie.Need-enum-known-lent
-enum-known-lent c = search needs
+enum-known-room : tie.Need-enum-known-room
+enum-known-room c = search needs
 
 enum-told : tie.Need-enum-told
 enum-told c = search needs
@@ -27,7 +27,7 @@ same-length c = search needs
 
 returns-2 : tie.Need-returns-2
 unfolding answerBy
-returns-2 c = shows-some (printed-some (printedSheet _) (says-some (c .before .before .before .before .before .lent .given .1) (c .before .before .before .before .before .before .before .size-said .ensures))) (c .before .before .print-sheet .ensures)
+returns-2 c = shows-some (printed-some (printedSheet _) (says-some (c .before .before .before .before .before .room .given .1) (c .before .before .before .before .before .before .before .size-said .ensures))) (c .before .before .print-sheet .ensures)
 
 pub answer-sheet-spec : {M : Type 1} → statement M
-answer-sheet-spec = tie.close (tie.spec size-said-requires enum-known-lent enum-told returns print-sheet-requires same-length returns-2)
+answer-sheet-spec = tie.close (tie.spec size-said-requires enum-known-room enum-told returns print-sheet-requires same-length returns-2)
