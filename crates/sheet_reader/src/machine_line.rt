@@ -1,33 +1,18 @@
 // The line of a machine: its head, its moves and its end.
 ghost use mathlib.Core.Path.{_≡_};
-ghost use mathlib.Core.Bool.{false, _&&_};
+ghost use mathlib.Core.Bool.{false};
 ghost use Prim.Native.Nat.{_<_, _≤_};
-ghost use lib.Dec.{eqb, leb, ltb};
 ghost use Rattle.sheet_reader.specs.Lent.{lentRows, Holding};
 ghost use Rattle.sheet_reader.specs.Lines.{ReadsLine};
 use super::moves::read_moves;
 use lexer::Word;
 use lexer::read_literal;
 use model::MAX_EVENTS;
-use model::MAX_PLACES;
 use names::HINTS;
 use regions::MOVES;
 use sheet_lines::HeadAt;
+use sheet_lines::good_head;
 use sheet_lines::read_head;
-
-// The number, the count of places and the start of machine m.
-fn good_head(number: usize, places: usize, start: usize, m: usize) -> bool
-    ensures { λ r. ⌜ r ≡ (eqb number m && (leb 1 places && (leb places 64 && ltb start places))) ⌝ }
-{
-    if number == m {
-        if 1 <= places {
-            if places <= MAX_PLACES {
-                return start < places;
-            }
-        }
-    }
-    false
-}
 
 // A machine's line: whether it is good, how many names there are after it, its start, and the position after it.
 pub struct LineAt {

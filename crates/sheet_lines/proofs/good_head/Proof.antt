@@ -1,7 +1,7 @@
 -- `good_head` is the test of its contract.
 use borrow.Author.Tests.{eq-eqb, ne-eqb, le-leb, lt-leb}
-use Rattle.sheet_reader.proofs.machine_line.good_head.Statement.{statement}
-use Rattle.sheet_reader.proofs.machine_line.good_head.Tie as tie
+use Rattle.sheet_lines.proofs.good_head.Statement.{statement}
+use Rattle.sheet_lines.proofs.good_head.Tie as tie
 
 returns : tie.Need-returns
 returns c = simp (eq-eqb _ _ (c .before .before .if1 .taken), le-leb _ _ (c .before .if2 .taken), le-leb _ _ (c .if3 .taken))
