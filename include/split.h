@@ -18,9 +18,9 @@
  *     split_name     8,192    22,528
  *     split_run     15,360    61,440
  *     split_thin    15,360    92,160
- *     split_sheet        0         0
- *     split_board        0         0
- *     all seven     22,528    92,160
+ *     split_sheet    6,144     6,144
+ *     split_board    7,168     6,144
+ *     all seven     28,672    92,160
  *
  * Both are measured, not proved, and rounded up; tests/library/check measures again. Code is what
  * the library adds to a program that calls this service only, linked with --gc-sections, its

@@ -4,7 +4,7 @@ use native.Mathlib.Omega.{arith}
 use mathlib.Core.Path.{_≡_, refl, ap, sym, _∙_}
 use mathlib.Core.Bool.{Bool, true, _&&_}
 use mathlib.Core.List.{List, [], _∷_}
-use lib.Dec.{T, ltb, eqb}
+use lib.Dec.{ltb, eqb}
 use lib.ListN.{length, getD, drop, length-drop}
 use lib.Seq.{length-take-le}
 use borrow.Author.Tests.{ltb-true, eqb-true}
@@ -13,10 +13,10 @@ use Rattle.model.specs.Lists.{every}
 use Rattle.model.specs.Reading.{got, part}
 use Rattle.model.specs.Sheet.{NamedMove, moveBytes, writtenMove, moveForm}
 use Rattle.model.proofs.Laws.{both}
-use Rattle.model.proofs.SheetForms.{MoveFormed, move-complete}
+use Rattle.model.proofs.SheetForms.{move-complete}
 use Rattle.model.proofs.Words.{Spans, then, spans-part}
 use Rattle.lexer.specs.Words.{packed}
-use Rattle.names.specs.Held.{PackedNames, Same}
+use Rattle.names.specs.Held.{Same}
 use Rattle.names.proofs.HeldNames.{entry-name, entry-told}
 use Rattle.quick_words.specs.declared.Figure.{Figure}
 use Rattle.quick_words.specs.Guessed.{FigureStands, GuessedFigure, Packs}

@@ -5,13 +5,11 @@ use native.Mathlib.Numerals.{add-one}
 use native.Mathlib.Omega.{arith}
 use mathlib.Core.Path.{_≡_, refl, ap, sym, _∙_}
 use mathlib.Core.Logic.{_⊎_, inl, inr}
-use mathlib.Core.Bool.{true}
 use mathlib.Core.List.{List, [], _∷_, _++_, List·Memᴰ·head, List·Memᴰ·tail}
-use lib.Dec.{T, ltb, eqb, ltb→lt}
+use lib.Dec.{T, ltb, ltb→lt}
 use lib.ListN.{length, getD, take, drop, length-take, length-drop, take-append-drop, drop-of-length-le}
 use lib.Pow.{pow-add, high}
 use lib.Seq.{drop-cons, take-all, take-take, take-add, drop-drop, drop-at, length-take-le}
-use borrow.Author.Tests.{eqb-true}
 use Rattle.model.specs.Bytes.{bytes}
 use Rattle.model.specs.Lists.{every}
 use Rattle.model.specs.Reading.{part}

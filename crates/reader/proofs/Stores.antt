@@ -2,19 +2,11 @@
 use Prim.Native.Nat.{ℕ, _+_, _<_, _≤_}
 use native.Mathlib.Numerals.{add-one}
 use native.Mathlib.Omega.{arith}
-use mathlib.Core.Path.{_≡_, refl, ap, sym, _∙_}
-use mathlib.Core.List.{List, [], _∷_, _++_, map}
-use lib.ListN.{length, getD, set, take, length-map}
+use mathlib.Core.Path.{_≡_, refl, ap, _∙_}
+use mathlib.Core.List.{List, [], _∷_}
+use lib.ListN.{length, getD, set, take}
 use lib.Seq.{sets, take-suc, length-take-le, take-all}
-use Rattle.model.proofs.ListLaws.{map-append}
-use Rattle.model.proofs.ListLaws.{sets-append, sets-snoc}
-
--- one value more in a row
-pub store : {A : Type 0} (f : A → ℕ) (row before : List ℕ) (l : List A) (x : A) (k v : ℕ) → row ≡ sets before 0 (map f l) → k ≡ length l → v ≡ f x
-    → set row k v ≡ sets before 0 (map f (l ++ (x ∷ [])))
-store f row before l x k v e c p =
-    let i : k ≡ 0 + length (map f l) = omega (arith, length-map l f) in
-    sym (ap (sets before 0) (map-append f l (x ∷ [])) ∙ sets-snoc before 0 (map f l) (f x) ∙ cc (sym e, sym i, sym p))
+use Rattle.model.proofs.ListLaws.{sets-append}
 
 -- the first x values of a row are stored into the table t, from `from` on
 pub record Put (t row : List ℕ) (from : ℕ) (now : List ℕ) (x : ℕ) : Type 0 where

@@ -7,15 +7,14 @@ use mathlib.Core.List.{List, [], _∷_, _++_, map, List·Memᴰ, List·Memᴰ·a
 use mathlib.Core.Logic.{_⊎_, inl, inr}
 use mathlib.Core.Option.{Option, none, some}
 use lib.Dec.{T, eqb, ltb, ltb→lt, lt→ltb}
-use lib.ListN.{length, getD, set, replicate, length-append, length-map}
-use lib.Seq.{sets}
+use lib.ListN.{length, getD, set, replicate, length-append}
 use Rattle.model.specs.Lists.{isSome, exists}
 use Rattle.model.specs.Bytes.{Name, IsName, OneEvent, sameName}
 use Rattle.model.specs.Text.{eventNumber, distinct}
 use Rattle.model.specs.Sheet.{NamedMove}
 use Rattle.model.specs.Board.{isGoodMove, addName}
 use Rattle.model.proofs.Laws.{T-true, T-false, not-T, and-l, and-r, not-below}
-use Rattle.model.proofs.ListLaws.{map-append, sets-snoc}
+use Rattle.model.proofs.ListLaws.{store}
 use Rattle.model.proofs.OneEvent.{one-among}
 use Rattle.model.proofs.SheetNames.{apart-snoc, distinct-apart, apart-distinct}
 use Rattle.lexer.specs.Words as Words
@@ -98,9 +97,7 @@ module _ {m n e p q : ℕ} {pre post : List ℕ} {r : Bool} {pre′ post′ : Li
 row-snoc : (f : Name → ℕ) (ns : List Name) (w : Name) (e v : ℕ) (l : List ℕ) → l ≡ row 64 0 (map f ns) → e ≡ length ns → v ≡ f w
     → set l e v ≡ row 64 0 (map f (ns ++ (w ∷ [])))
 unfolding row
-row-snoc f ns w e v l p q r =
-    let z : 0 + length (map f ns) ≡ e = omega (arith, length-map ns f) in
-    rw (p, r, ← z) (sym (sets-snoc (replicate 64 0) 0 (map f ns) (f w)) ∙ ap (sets (replicate 64 0) 0) (sym (map-append f ns (w ∷ []))))
+row-snoc f ns w e v l p q r = store f l (replicate 64 0) ns w e v p q r
 
 -- a name that is there
 pub name-known : (ns : List Name) (w : Name) → eventNumber ns w < length ns → addName ns w ≡ ns

@@ -1,6 +1,5 @@
 -- `quick_move::verified_move` meets its contract: the tests by the law of `Moves`.
 use borrow.Author.Needs.{needs}
-use native.Mathlib.Omega.{arith}
 use denote.Ref.{now}
 use borrow.Author.Tests.{not-false}
 use Rattle.quick_move.specs.Quick.{ReadsQuickly}

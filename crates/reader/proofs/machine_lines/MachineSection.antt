@@ -30,7 +30,7 @@ use Rattle.reader.specs.declared.Section.{Section}
 use Rattle.reader.specs.declared.Section.the-variants.{Refused, Read}
 use Rattle.reader.specs.Sections.{Rest, begun, MachineRows, machineRows, withMachines, MachinesFound, MachinesRead, ReadsMachines}
 use Rattle.reader.proofs.Rest.{and-not}
-use Rattle.reader.proofs.Stores.{store}
+use Rattle.model.proofs.ListLaws.{store}
 use Rattle.reader.proofs.Phases.{machines-none, machines-end, machine-fail, machine-many, machine-places, machine-undeclared, machine-more}
 
 pub record Machines (s : List ℕ) (n : ℕ) (es : List Name) (ts : List Named) (c : Checked Input) (k i : ℕ) (before now : MachineRows) : Type 0 where

@@ -28,7 +28,7 @@ use Rattle.reader.specs.declared.Section.{Section}
 use Rattle.reader.specs.declared.Section.the-variants.{Refused, Read}
 use Rattle.reader.specs.Sections.{DistinctRows, Declares, Rest, begun, TransitionRows, transitionRows, withSteps, StepFound, StepRefused, StepRead, countOf, StepsFound, StepsRead, ReadsSteps}
 use Rattle.reader.proofs.Rest.{and-not}
-use Rattle.reader.proofs.Stores.{store}
+use Rattle.model.proofs.ListLaws.{store}
 use Rattle.reader.proofs.Phases.{step-many, step-source, step-target, step-event, step-more}
 
 pub record Steps (s : List ℕ) (n : ℕ) (es : List Name) (c : Checked Input) (k i : ℕ) (before now : TransitionRows) : Type 0 where
