@@ -69,7 +69,7 @@ enum split_refusal {
     SPLIT_UNHELD = 11,      /* event, 0: it is on no machine */
     SPLIT_OPEN = 12,        /* event, state: the machines would run the event there, not the plan */
     SPLIT_SHORT_SHEET = 13, /* size needed, 0: what is lent for output is too short */
-    SPLIT_ODD_CALL = 14,    /* position, 0: no event is declared so, or its name is not ended */
+    SPLIT_ODD_CALL = 14,    /* position, 0: no such event, or a name on no move or not ended */
     SPLIT_BAD_SHEET = 15    /* line, 0: it breaks the sheet's form; 0, 0: it is over 32,768 bytes */
 };
 

@@ -77,6 +77,7 @@ board-bad s t line e q =
     record {
       runs = rw e q;
       counted = λ b f. absurd (refused-passed (tabled (BadSheet line)) b (sym e ∙ f));
+      no-machines = λ q f. refl;
     }
 
 pub board-good : {s : List ℕ} {machines count : ℕ} {u : Lent} {places : List ℕ} → GoodRead s machines count u places → (t : List ℕ) {r : D.RunAnswer}
@@ -86,6 +87,7 @@ board-good g t f =
     record {
       runs = rw (g .read) (f .runs (g .board) (g .loaded) (g .counted) (g .starts));
       counted = λ b h. g .counted ∙ ap length (same-passed (g .board) b (sym (g .read) ∙ h));
+      no-machines = λ q h. absurd (refused-passed q (g .board) (sym h ∙ g .read));
     }
 
 -- ---- the machines written again

@@ -6,7 +6,7 @@ use mathlib.Core.List.{List, []}
 use mathlib.Core.Option.{Option, none, some}
 use lib.ListN.{length, drop}
 use Rattle.model.specs.Lists.{every, index, isEmpty}
-use Rattle.model.specs.Refusal.{refuse, refused, passed}
+use Rattle.model.specs.Refusal.{Refusal, refuse, refused, passed}
 use Rattle.model.specs.Product.{Ran, effective}
 use Rattle.model.specs.Bytes.{Name}
 use Rattle.model.specs.Sheet.{Board}
@@ -61,3 +61,4 @@ pub record RunsNames (t : List ℕ) (machines count : ℕ) (u : Lent) (start : L
 pub record RunsBoard (s t : List ℕ) (machines : ℕ) (answer : D.RunAnswer) : Type 0 where
   pub runs : runAnswer answer ≡ boardRun s t
   pub counted : (b : Board) → readSheet s ≡ passed b → machines ≡ length b
+  pub no-machines : (q : Refusal) → readSheet s ≡ refused q → machines ≡ 0

@@ -61,7 +61,7 @@ pub struct BoardRun {
     pub answer: RunAnswer,
 }
 
-pub fn board_run(sheet: &[u8], names: &[u8]) -> BoardRun
+pub fn run_board(sheet: &[u8], names: &[u8]) -> BoardRun
     ensures { λ r. ⌜ RunsBoard (now (sheet .entry)) (now (names .entry)) (r .machines) (r .answer) ⌝ }
 {
     let mut len = [0usize; MAX_EVENTS];
@@ -110,5 +110,5 @@ pub fn board_run(sheet: &[u8], names: &[u8]) -> BoardRun
 pub fn board(sheet: &[u8], names: &[u8]) -> RunAnswer
     ensures { λ r. ⌜ runAnswer r ≡ Board.boardRun (now (sheet .entry)) (now (names .entry)) ⌝ }
 {
-    board_run(sheet, names).answer
+    run_board(sheet, names).answer
 }

@@ -42,6 +42,7 @@ unfolding exists every first index count satisfying isSome isEmpty numbers elem 
 answers-on-y = record { no-word = refl; short = refl; named = refl; ran = refl; two-names = refl; capitals = refl }
 
 pub record AnswersOnSheet (y : List ℕ) : Type 0 where
+  pub written : answerTo (bytes "sheet" ∷ []) y ≡ some y
   pub short : answerTo (bytes "sheet" ∷ bytes "144" ∷ []) y ≡ some (bytes "(refused 13 145 0)\n")
   pub ran : answerTo (bytes "board" ∷ bytes "ready" ∷ bytes "brake" ∷ []) y ≡ some (bytes "(whole (places 1 1))\n")
   pub blocked : answerTo (bytes "board" ∷ bytes "ready" ∷ bytes "ready" ∷ []) y ≡ some (bytes "(blocked 1 0 (places 1 0))\n")
@@ -49,13 +50,14 @@ pub record AnswersOnSheet (y : List ℕ) : Type 0 where
   pub two-sizes : answerTo (bytes "sheet" ∷ bytes "1" ∷ bytes "2" ∷ []) y ≡ none
   -- a text is no sheet
   pub text : answerTo (bytes "board" ∷ []) (bytes Y) ≡ some (bytes "(refused 15 1 0)\n")
+  pub text-again : answerTo (bytes "sheet" ∷ []) (bytes Y) ≡ some (bytes "(refused 15 1 0)\n")
 
 pub answers-on-sheet : AnswersOnSheet (bytes ySheet)
 unfolding exists every first index isSome isEmpty flatMap flatten moveFrom both oneMore inAlphabet effective fire fireAll productStep blocker runFrom isDigit isLetter
     isNameByte isFigure isName digits numeral numeralUpTo distinct moveBytes writtenMove writtenLine writtenCount writtenSheet countForm moveForm lineForm isGoodMove
     addName addNames namesOn isGoodLine machineThen machinesFrom countThen readSheet moveOn startPlaces splitNames runNames printedBy fitting spaced ranWord placesWord
     ranLine printedSheet printedBoard writtenRefusal serviceSaid isNumeral numberSaid sizeSaid answerBy answerTo
-answers-on-sheet = record { short = refl; ran = refl; blocked = refl; no-name = refl; two-sizes = refl; text = refl }
+answers-on-sheet = record { written = refl; short = refl; ran = refl; blocked = refl; no-name = refl; two-sizes = refl; text = refl; text-again = refl }
 
 -- a row of three words, the second empty, the last with no byte 0 behind it
 pub three-words : wordsIn (97 ∷ 98 ∷ 0 ∷ 0 ∷ 99 ∷ []) ≡ (97 ∷ 98 ∷ []) ∷ [] ∷ (99 ∷ []) ∷ []

@@ -135,11 +135,12 @@ fn explain_call(refusal: usize, first: &[u8], second: &[u8]) {
         15 => put_filled(
             b"bad sheet: line % of the sheet is the first that is faulty, or that is missing.\n\
               Line 0 stands for the whole sheet, over 32768 bytes.\n\
-              Usual causes: byte 13 before byte 10; no byte 10 after the last line; more or\n\
-              fewer machines than line 1 says; machines not numbered 0, 1, 2 and so on; a\n\
-              start or an end of a move not below the count of places; two ends that are one\n\
-              place; an event twice in a machine; over 64 names. ./split check writes a good\n\
-              sheet from the plan and its split: correct these, not the sheet.\n",
+              Usual causes: a refusal or a plan in the place of a sheet (line 1); byte 13\n\
+              before byte 10; no byte 10 after the last line; more or fewer machines than\n\
+              line 1 says; machines not numbered 0, 1, 2 and so on; a start or an end of a\n\
+              move not below the count of places; two ends that are one place; an event twice\n\
+              in a machine; over 64 names. ./split check writes a good sheet from the plan\n\
+              and its split: correct these, not the sheet.\n",
             first,
             second,
         ),

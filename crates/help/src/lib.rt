@@ -13,7 +13,7 @@ fn put_error(words: &[u8]) {
 
 fn put_usage() {
     put_error(
-        b"; usage: ./split [check [LENT] | steps [LENT] | name EVENT | run [EVENT..] | thin | sheet [LENT] | board [NAME..] | help [text] | explain REFUSAL [A [B]]] < TEXT, or FILE\n",
+        b"; usage: ./split [check [LENT] | steps [LENT] | name EVENT | run [EVENT..] | thin | sheet [LENT] | board [NAME..] | help [text] | explain REFUSAL [A [B]]] < TEXT or SHEET, or FILE\n",
     );
 }
 

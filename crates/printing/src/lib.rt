@@ -14,7 +14,7 @@ ghost use Rattle.product.specs.Answers.{outcomeIs};
 ghost use Rattle.printing.specs.Shown.{Shows, FitsBuffer, lentLine, FewMachines, outcomeLine, keptBelow};
 use answers::Answer;
 use answers::numbers;
-use board_service::board_run;
+use board_service::run_board;
 use check_service::check;
 use model::MAX_MACHINES;
 use model::Refusal;
@@ -199,7 +199,7 @@ pub fn print_board(sheet: &[u8], names: &[u8], out: &mut [u8]) -> usize
     requires { ⌜ length (now out) ≡ 32768 ⌝ }
     ensures { λ r. ⌜ Shows (printedBoard (now (sheet .entry)) (now (names .entry))) r (now (out .exit)) ⌝ }
 {
-    let run = board_run(sheet, names);
+    let run = run_board(sheet, names);
     print_ran(run.answer, run.machines, out)
 }
 

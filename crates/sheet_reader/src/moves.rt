@@ -34,7 +34,7 @@ fn good_ends(from: usize, to: usize, places: usize) -> bool
     false
 }
 
-// The move of event e on machine m, unless it is none of the machine's or the event is on the machine already.
+// The move of event e on machine m, unless its ends are not two places of the machine or the event is on it already.
 fn store_move(
     pre: &mut [u8; MOVES],
     post: &mut [u8; MOVES],

@@ -5,17 +5,17 @@ use Rattle.printing.proofs.Runs.{board-few, board-printed}
 use Rattle.printing.proofs.print_board.Statement.{statement}
 use Rattle.printing.proofs.print_board.Tie as tie
 
-board-run-requires : tie.Need-board-run-requires
-board-run-requires c κs = search needs
+run-board-requires : tie.Need-run-board-requires
+run-board-requires c κs = search needs
 
 print-ran-requires : tie.Need-print-ran-requires
-print-ran-requires c κs = (search needs, board-few (c .before .board-run .ensures))
+print-ran-requires c κs = (search needs, board-few (c .before .run-board .ensures))
 
 same-length : tie.Need-same-length
 same-length c = search needs
 
 returns : tie.Need-returns
-returns c = shows-same (board-printed (c .before .before .before .before .board-run .ensures)) (c .before .before .print-ran .ensures)
+returns c = shows-same (board-printed (c .before .before .before .before .run-board .ensures)) (c .before .before .print-ran .ensures)
 
 pub print-board-spec : {M : Type 1} → statement M
-print-board-spec = tie.close (tie.spec board-run-requires print-ran-requires same-length returns)
+print-board-spec = tie.close (tie.spec run-board-requires print-ran-requires same-length returns)

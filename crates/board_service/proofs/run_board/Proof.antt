@@ -1,12 +1,12 @@
--- `board_service::board_run` meets its contract: the laws are in `Calling`.
+-- `board_service::run_board` meets its contract: the laws are in `Calling`.
 use mathlib.Core.Path.{sym}
 use denote.Ref.{now}
 use Rattle.sheet_reader.specs.Lent.{lentRows}
 use Rattle.sheet_reader.proofs.Sheeting.{fresh-board}
 use Rattle.board_service.proofs.Calling.{bad-read, GoodRead, good-read, board-bad, board-good}
 use borrow.Author.Needs.{needs}
-use Rattle.board_service.proofs.board_run.Statement.{statement}
-use Rattle.board_service.proofs.board_run.Tie as tie
+use Rattle.board_service.proofs.run_board.Statement.{statement}
+use Rattle.board_service.proofs.run_board.Tie as tie
 
 -- the sheet is good
 read : (c : tie.After-known-told2)
@@ -42,8 +42,8 @@ returns c = board-bad _ _ _ (bad-read (c .before .before .before .before .read-s
 returns-2 : tie.Need-returns-2
 returns-2 c = board-good (read (c .before .before .before .before .before .before .before)) _ (c .run-names .ensures)
 
-pub board-run-spec : {M : Type 1} → statement M
-board-run-spec =
+pub run-board-spec : {M : Type 1} → statement M
+run-board-spec =
     tie.close
     (tie.spec
     read-sheet-requires
