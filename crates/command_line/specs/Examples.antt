@@ -16,7 +16,7 @@ use Rattle.model.specs.Board.{isGoodMove, addName, addNames, namesOn, isGoodLin
 use Rattle.model.specs.Printed.{printedBy, fitting, spaced, printedCheck, nameLine, printedName, ranWord, placesWord, ranLine, printedRun, printedSheet, printedBoard}
 use Rattle.model.specs.Services.{asFarAs7, asFarAs10, asFarAs12, name, runEvents, printed, writtenAnswer, writtenRefusal}
 use Rattle.model.specs.Examples.{Y, Y0, Y1}
-use Rattle.model.specs.BoardExamples.{ySheet}
+use Rattle.sheet_examples.specs.Examples.{ySheet}
 use Rattle.command_line.specs.Words.{serviceSaid, isNumeral, isNameWord, numberSaid, eventSaid}
 use Rattle.command_line.specs.WordRow.{begunBy, wordsIn}
 use Rattle.command_line.specs.Program.{sizeSaid, oneEventSaid, before, eventsSaid, namesOf, answerBy, answerTo}

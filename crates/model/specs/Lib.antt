@@ -16,5 +16,4 @@ pub mod BoardTable
 pub mod Printed
 pub mod Demands
 pub mod Examples
-pub mod BoardExamples
 pub mod Cases

@@ -1,19 +1,18 @@
--- Examples of sheets that are read and run. Document 02, slip 1.
--- Held by computing: `boards`.
+-- Sheets that are read and run, computed (`boards`). Document 02, slip 1.
 use Prim.Native.Nat.{ℕ, suc}
 use Prim.Native.String.{String}
 use mathlib.Core.Path.{_≡_, refl}
 use mathlib.Core.Bool.{false}
 use mathlib.Core.List.{List, [], _∷_, _++_, flatMap}
 use lib.ListN.{length, replicate}
 use Rattle.model.specs.Lists.{numbers, exists, every, first, index, isSome, isEmpty}
 use Rattle.model.specs.Refusal.{refuse, refused, passed, refusalOf}
 use Rattle.model.specs.Product.{moveFrom, both, oneMore, inAlphabet, effective, fire, fireAll, productStep, blocker, runFrom}
 use Rattle.model.specs.Bytes.{bytes, isDigit, isLetter, isNameByte, isFigure, isName, digits}
 use Rattle.model.specs.Text.{distinct}
 use Rattle.model.specs.Sheet.{moveBytes, writtenMove, writtenLine, writtenCount, writtenSheet, countForm, moveForm, lineForm}
 use Rattle.model.specs.Services.{lend, Outcome, whole, blocked, refusedBy, outcomeOf, padded, ranAnswer}
 use Rattle.model.specs.Board.{isGoodMove, addName, addNames, namesOn, isGoodLine, machineThen, machinesFrom, countThen, readSheet, rewrite, moveOn, startPlaces, splitNames, runNames, boardRun}
 
 -- the sheet of the plan Y
 abbrev pub ySheet : String

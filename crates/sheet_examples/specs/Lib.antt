@@ -1,0 +1,2 @@
+-- Sheets that are read and run.
+pub mod Examples
