@@ -14,9 +14,10 @@ use model::Refusal;
 use names::HINTS;
 use product::Outcome;
 use product::RunAnswer;
+use product::blocking_machine;
+use product::move_lanes;
 use product::place_bounds;
 use product::refused;
-use product::step;
 
 // The first name from a position on that is not ended or on no move, by how many names stand before it.
 enum OddName {
@@ -93,6 +94,7 @@ pub fn run_names<'a>(
     ensures { λ r. ⌜ RunsNames (now (names .entry)) machines count (lentRows (now («len» .entry)) (now («high» .entry)) (now («low» .entry)) (now (pre .entry)) (now (post .entry))) start (runAnswer r) ⌝ }
 {
     let bounds = place_bounds(machines);
+    let sixteen = [MAX_MACHINES; 1];
     let mut places = start;
     let mut ran = 0;
     let mut i = 0;
@@ -101,10 +103,11 @@ pub fn run_names<'a>(
         else {
             return refused(Refusal::UnknownEvent { position: ran }); // 14 odd call
         };
-        let stepped = step(pre, post, machines, bounds, places, event);
-        places = stepped.places;
-        let blocker = stepped.blocker;
-        if blocker < machines {
+        let moved = move_lanes(pre, post, bounds, places, event, &sixteen);
+        let ready = moved.ready;
+        let after = moved.places;
+        if !ready {
+            let machine = blocking_machine(pre, machines, places, event);
             return end_blocked(
                 names,
                 next,
@@ -114,10 +117,11 @@ pub fn run_names<'a>(
                 count,
                 hints,
                 ran,
-                blocker,
+                machine,
                 places,
             );
         }
+        places = after;
         ran += 1;
         i = next;
     }

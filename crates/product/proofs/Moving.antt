@@ -2,7 +2,7 @@
 use Prim.Native.Nat.{ℕ, _+_, _*_, _-_, _<_, _≤_}
 use native.Mathlib.Decide.{ℕ-discrete}
 use native.Mathlib.Omega.{arith}
-use mathlib.Core.Path.{_≡_, refl, ap, sym, _∙_}
+use mathlib.Core.Path.{_≡_, refl, ap, sym, _∙_, subst}
 use mathlib.Core.Logic.{_⊎_, inl, inr, ⊎-elim}
 use mathlib.Core.List.{List}
 use mathlib.Core.Option.{Option, none, some}
@@ -18,6 +18,7 @@ use Rattle.rows.specs.Told.{entry, below}
 use Rattle.rows.proofs.Searches.{below-in, below-out, lowest-same, searched}
 use Rattle.regions.specs.Moves.{moveAt}
 use Rattle.product.specs.Stepping.{PlaceBounds, blocksAt, Steps}
+use Rattle.product.specs.Lanes.{Blocking, Lanes}
 use Rattle.product.proofs.Firing.{rows-go, rows-halt, rows-pass}
 
 -- what a row of moves has for event e on machine k
@@ -89,21 +90,6 @@ module _ {pre : List ℕ} {machines : ℕ} {places : List ℕ} {e : ℕ} where
   pub pass-end : {left : ℕ} → Passing pre machines places e left → left ≤ 0 → (machines ≤ machines) × (below machines machines ≡ lowest (blocksAt pre places e) machines)
   pass-end p l = (omega arith, searched (blocksAt pre places e) machines machines (omega arith) (λ k i. p .passed k (omega arith)) (λ i. absurd (omega arith)))
 
--- a machine that blocks
-pub record Blocking (pre : List ℕ) (machines : ℕ) (places : List ℕ) (e : ℕ) : Type 0 where
-  pub machine : ℕ
-  pub among : machine < machines
-  pub blocks : T (blocksAt pre places e machine)
-
--- the machine numbers before m are passed: all are ready and stand in `moved` where they go, or one blocks; the others are as they stood
-pub record Lanes (pre post : List ℕ) (machines : ℕ) (places : List ℕ) (e : ℕ) (moved : List ℕ) (all : Bool) (m : ℕ) : Type 0 where
-  pub most : m ≤ 16
-  pub size : length moved ≡ 16
-  pub went : T all → (k : ℕ) → k < m → k < machines → fire (moveAt pre post) k e (entry places k) ≡ some (entry moved k)
-  pub halted : T (not all) → Blocking pre machines places e
-  pub later : (k : ℕ) → m ≤ k → entry moved k ≡ entry places k
-  pub unused : (k : ℕ) → machines ≤ k → entry moved k ≡ entry places k
-
 module _ {pre post : List ℕ} {machines : ℕ} {places : List ℕ} {e : ℕ} where
   pub lane-start : length places ≡ 16 → Lanes pre post machines places e places true 0
   lane-start h = record { most = omega arith; size = h; went = λ t k l. absurd (omega arith); halted = λ t. absurd t; later = λ k l. refl; unused = λ k l. refl }
@@ -158,7 +144,11 @@ module _ {pre post : List ℕ} {machines : ℕ} {places : List ℕ} {e : ℕ} wh
               let s : stands ≡ true = v ∙ rw o in
               lane-on stands q (λ t c. absurd (omega arith)) (λ t. absurd (rw s at t)) (λ c. w ∙ rw o)
 
-  module _ {moved : List ℕ} {all : Bool} {m : ℕ} (z : Lanes pre post machines places e moved all m) (few : machines ≤ 16) (l : 16 ≤ m) where
+  -- all sixteen are passed
+  pub lane-all : {moved : List ℕ} {all : Bool} {m : ℕ} → Lanes pre post machines places e moved all m → 16 ≤ m → Lanes pre post machines places e moved all 16
+  lane-all {moved} {all} {m} z l = let q : m ≡ 16 = omega (arith, z .most) in subst (Lanes pre post machines places e moved all) q z
+
+  module _ {moved : List ℕ} {all : Bool} (z : Lanes pre post machines places e moved all 16) (few : machines ≤ 16) where
     -- none blocks
     pub lane-end : length places ≡ 16 → all ≡ true → Steps pre post machines places e (record { blocker = machines; places = moved })
     unfolding isSome
@@ -176,6 +166,14 @@ module _ {pre post : List ℕ} {machines : ℕ} {places : List ℕ} {e : ℕ} wh
         went k i = z .went (rw t tt) k (omega arith) i
 
     -- one blocks, and the search finds the lowest
+    pub lane-stops : all ≡ false → {r : ℕ} → (r ≤ machines) × (below machines r ≡ lowest (blocksAt pre places e) machines) → r < machines
+    lane-stops t {r} f = not-le machines r (ends (z .halted (rw t tt)))
+      where
+        ends : Blocking pre machines places e → machines ≤ r → ⊥
+        ends b i =
+            let none-found = lowest-none (blocksAt pre places e) machines (sym (f .1) ∙ below-out machines r i) (b .machine) (b .among) in
+            contra (blocksAt pre places e (b .machine)) none-found (b .blocks)
+
     pub lane-blocked : length places ≡ 16 → all ≡ false → {r : ℕ} → (r ≤ machines) × (below machines r ≡ lowest (blocksAt pre places e) machines)
         → Steps pre post machines places e (record { blocker = r; places = places })
     lane-blocked s t {r} f =
@@ -188,13 +186,8 @@ module _ {pre post : List ℕ} {machines : ℕ} {places : List ℕ} {e : ℕ} wh
           others = λ k i. refl;
         }
       where
-        ends : Blocking pre machines places e → machines ≤ r → ⊥
-        ends b i =
-            let none-found = lowest-none (blocksAt pre places e) machines (sym (f .1) ∙ below-out machines r i) (b .machine) (b .among) in
-            contra (blocksAt pre places e (b .machine)) none-found (b .blocks)
-
         stops : r < machines
-        stops = not-le machines r (ends (z .halted (rw t tt)))
+        stops = lane-stops t f
 
         halted : (fireAll (moveAt pre post) e (numbers machines) (take machines places) ≡ none) × (blocker (moveAt pre post) (numbers machines) (take machines places) e ≡ r)
         halted =

@@ -1,5 +1,6 @@
 // Run: the machines together, from given places over a list of events.
 ghost use mathlib.Core.Path.{_≡_};
+ghost use mathlib.Core.List.{[], _∷_};
 ghost use mathlib.Core.Bool.{not, cond, _||_};
 ghost use Prim.Native.Nat.{_*_, _+_, _<_, _≤_};
 ghost use lib.Dec.{eqb, ltb};
@@ -11,6 +12,7 @@ ghost use Rattle.model.specs.Services.{ranAnswer};
 ghost use Rattle.rows.specs.Told.{entry, below};
 ghost use Rattle.regions.specs.Moves.{MoveRows};
 ghost use Rattle.product.specs.Answers.{runAnswer};
+ghost use Rattle.product.specs.Lanes.{Moves};
 ghost use Rattle.product.specs.Stepping.{Standing, PlaceBounds, blocksAt, Steps, IsPadded, EventsOn, RunsFrom, Runs, RunsEvents};
 use model::MAX_MACHINES;
 use model::MAX_PLACES;
@@ -80,7 +82,7 @@ fn place_after(on: bool, to: u8, place: u8) -> u8
 }
 
 // The lowest machine that has event e and stands elsewhere than in its pre-place; their count if there is none.
-fn blocking_machine(pre: &[u8], machines: usize, places: [u8; MAX_MACHINES], e: usize) -> usize
+pub fn blocking_machine(pre: &[u8], machines: usize, places: [u8; MAX_MACHINES], e: usize) -> usize
     requires { ⌜ (machines ≤ 16) × (e < 64) × (length (now pre) ≡ 1024) ⌝ }
     ensures { λ r. ⌜ (r ≤ machines) × (below machines r ≡ lowest (blocksAt (now (pre .entry)) places e) machines) ⌝ }
 {
@@ -111,8 +113,45 @@ pub fn place_bounds(machines: usize) -> [u8; MAX_MACHINES]
     bounds
 }
 
-// Event e from these places. All sixteen machine numbers are taken alike, so that they are one vector; which machine blocks is asked only where one does.
-pub fn step<'a>(
+// The machine numbers side by side: whether each that has the event is ready for it, and where they go if all are.
+pub struct Moved {
+    pub ready: bool,
+    pub places: [u8; MAX_MACHINES],
+}
+
+// Event e from these places. All sixteen machine numbers are taken alike, so that they are one vector. Their count is read from a row, and which machine blocks is no
+// part of this: where the count is known the loop is unrolled, and only before that is it small enough to be compiled into each loop that calls it.
+pub fn move_lanes<'a>(
+    pre: &'a [u8],
+    post: &'a [u8],
+    bounds: [u8; MAX_MACHINES],
+    places: [u8; MAX_MACHINES],
+    e: usize,
+    count: &'a [usize; 1],
+) -> Moved
+    requires { ⌜ (e < 64) × MoveRows (now pre) (now post) × (now count ≡ 16 ∷ []) ⌝ }
+    ensures { λ r. ⌜ Moves (now (pre .entry)) (now (post .entry)) bounds places e r ⌝ }
+{
+    let at = e * MAX_MACHINES;
+    let lanes = count[0];
+    let mut moved = places;
+    let mut ready = true;
+    let mut m = 0;
+    while m < lanes {
+        let from = pre[at + m];
+        let on = from < bounds[m];
+        ready = ready & is_ready(on, from, places[m]);
+        moved[m] = place_after(on, post[at + m], places[m]);
+        m += 1;
+    }
+    Moved {
+        ready,
+        places: moved,
+    }
+}
+
+// Event e from these places: which machine blocks is asked only where one does.
+fn step<'a>(
     pre: &'a [u8],
     post: &'a [u8],
     machines: usize,
@@ -123,21 +162,14 @@ pub fn step<'a>(
     requires { ⌜ (machines ≤ 16) × PlaceBounds machines bounds × (e < 64) × MoveRows (now pre) (now post) ⌝ }
     ensures { λ r. ⌜ Steps (now (pre .entry)) (now (post .entry)) machines places e r ⌝ }
 {
-    let at = e * MAX_MACHINES;
-    let mut moved = places;
-    let mut ready = true;
-    let mut m = 0;
-    while m < MAX_MACHINES {
-        let from = pre[at + m];
-        let on = from < bounds[m];
-        ready = ready & is_ready(on, from, places[m]);
-        moved[m] = place_after(on, post[at + m], places[m]);
-        m += 1;
-    }
+    let count = [MAX_MACHINES; 1];
+    let moved = move_lanes(pre, post, bounds, places, e, &count);
+    let ready = moved.ready;
+    let after = moved.places;
     if ready {
         return Stepped {
             blocker: machines,
-            places: moved,
+            places: after,
         };
     }
     let blocker = blocking_machine(pre, machines, places, e);
