@@ -14,8 +14,6 @@ int main(int count, char **words)
 {
     size_t machine = count > 1 ? strtoul(words[1], NULL, 10) : 0;
     size_t len = fread(sheet, 1, sizeof sheet, stdin), size = 0;
-    if (machine >= 16)
-        return 2;
     for (int i = 2; i < count; i++) {
         size_t word = strlen(words[i]);
         if (word + 1 > sizeof names - size)
@@ -29,6 +27,12 @@ int main(int count, char **words)
     if (r.number != BOARD_ANSWERED) {
         printf("(refused %zu %zu %zu)\n", r.number, r.detail, r.second);
         return 1;
+    }
+    size_t machines = 0; /* line 1 of a good sheet counts them */
+    sscanf((const char *)sheet, "(accepted %zu)", &machines);
+    if (machine >= machines) {
+        printf("the sheet has no machine %zu\n", machine);
+        return 2;
     }
     printf("machine %zu stands in place %d", machine, r.places[machine]);
     if (r.blocked)

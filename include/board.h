@@ -23,10 +23,15 @@
  *
  * What a call takes: a slice is passed as a pointer and a length. If the length is 0 nothing is
  * read or written through the pointer, and it may be null: an empty sheet is refused as bad (15,
- * line 1); a list of no names runs to its end, if the sheet passes; an output of length 0 is
+ * line 1); if the sheet is good, a list of no names runs to its end, and an output of length 0 is
  * refused by 13 with the size needed. A null pointer with another length is not allowed. What is
  * lent for output must overlap nothing else that is passed. A call keeps no state and may run in
  * several threads at once.
+ *
+ * A good sheet has at most 32,768 bytes: a line (accepted N), N from 1 to 16, then for each machine
+ * K from 0 to N - 1 a line (machine K (places P) (start Q) (move NAME FROM TO) ..), each ended by
+ * byte 10. P is 1 to 64; Q and the ends of moves are below P, and the two ends of a move differ. A
+ * machine names an event once, and at most 64 names occur. The order of moves is free.
  *
  * What a call leaves: number is BOARD_ANSWERED and the answer is in the other fields; or number is
  * another of enum board_refusal, detail and second are its two details, the other fields are 0 and
@@ -50,7 +55,7 @@ enum board_refusal {
     BOARD_ANSWERED = 0,     /* 0, 0: not refused */
     BOARD_SHORT_SHEET = 13, /* size needed, 0: what is lent for output is too short */
     BOARD_ODD_CALL = 14,    /* position, 0: the name there is on no move, or not ended */
-    BOARD_BAD_SHEET = 15    /* line, 0: it breaks the sheet's form; 0, 0: it is over 32,768 bytes */
+    BOARD_BAD_SHEET = 15    /* line, 0: the first that is not good, or missing; line 0: too long */
 };
 
 struct board_answer {

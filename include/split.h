@@ -30,11 +30,11 @@
  *
  * What a call takes: a slice is passed as a pointer and a length. If the length is 0 nothing is
  * read or written through the pointer, and it may be null: an empty text is refused as misformed
- * (1, line 1), an empty sheet as bad (15, line 1); a list of no events or names runs to its end, if
- * the text or the sheet passes; an output of length 0 is refused by 13 with the size needed, which
- * is a way to ask for it (a plan without steps needs none). A null pointer with another length is
- * not allowed. What is lent for output must overlap nothing else that is passed. A call keeps no
- * state and may run in several threads at once.
+ * (1, line 1), an empty sheet as bad (15, line 1); if the text passes or the sheet is good, a list
+ * of no events or names runs to its end, and an output of length 0 is refused by 13 with the size
+ * needed, which is a way to ask for it (a plan without steps needs none). A null pointer with
+ * another length is not allowed. What is lent for output must overlap nothing else that is passed.
+ * A call keeps no state and may run in several threads at once. board.h says what a good sheet is.
  *
  * What a call leaves: number is SPLIT_ANSWERED and the answer is in the other fields; or number is
  * another of enum split_refusal, detail and second are its two details, the other fields are 0 and
@@ -70,7 +70,7 @@ enum split_refusal {
     SPLIT_OPEN = 12,        /* event, state: the machines would run the event there, not the plan */
     SPLIT_SHORT_SHEET = 13, /* size needed, 0: what is lent for output is too short */
     SPLIT_ODD_CALL = 14,    /* position, 0: no such event, or a name on no move or not ended */
-    SPLIT_BAD_SHEET = 15    /* line, 0: it breaks the sheet's form; 0, 0: it is over 32,768 bytes */
+    SPLIT_BAD_SHEET = 15    /* line, 0: the first that is not good, or missing; line 0: too long */
 };
 
 /* A step of the plan: from-state, event number, to-state. */
