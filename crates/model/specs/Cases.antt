@@ -6,7 +6,7 @@ use Rattle.model.specs.declared.Transition as T
 use Rattle.model.specs.Refusal.{Refusal, refuse}
 use Rattle.model.specs.TransitionSystem.{Transition}
 
--- the number and the details that document 01's table gives each refusal
+-- the number and the details that the table of documents 01 and 02 gives each refusal
 unfoldable pub tabled : D.Refusal → Refusal
 tabled (C.Malformed line) = refuse 1 line 0
 tabled (C.LimitExceeded line) = refuse 2 line 0
