@@ -5,7 +5,7 @@ use mathlib.Core.Path.{_≡_, refl, ap, sym, _∙_, subst}
 use mathlib.Core.Logic.{_⊎_, inl, inr, _↔_}
 use mathlib.Core.Bool.{Bool, true, not, cond, _&&_}
 use mathlib.Core.List.{List, [], _∷_, _++_, flatMap, append-assoc, append-nil, List·Memᴰ, List·Memᴰ·head, List·Memᴰ·tail, Memᴰ·append-right}
-use mathlib.Core.Option.{Option, none, some, Option·none-ne-some, Option·some-injective}
+use mathlib.Core.Option.{Option, none, some}
 use lib.Dec.{T}
 use lib.ListN.{length, take, drop, replicate}
 use lib.Seq.{length-take-le}
@@ -20,7 +20,7 @@ use Rattle.model.specs.BoardTable.{OnSheet, SaysSheet, ended, Unbroken, 
 use Rattle.model.specs.Demands.{Lends}
 use Rattle.model.proofs.Laws.{dec, T-true, T-false, not-T, contra, and-l, and-r, and-i, cond-false, exists-intro, every-elim, not-every-elim}
 use Rattle.model.proofs.ListLaws.{flatMap-append}
-use Rattle.model.proofs.Positions.{at-below, at-mem, mem-at, index-at, index-first}
+use Rattle.model.proofs.Positions.{at-below, at-mem, mem-at, split-at, take-mem, index-at, index-first}
 use Rattle.model.proofs.Verdicts.{refused-passed, same-refused, same-passed}
 use Rattle.model.proofs.Lending.{lends}
 use Rattle.model.proofs.GoodLines.{sheet-lines}
@@ -69,17 +69,6 @@ unfolding index
 index-skip g [] ys h = omega arith
 index-skip g (x ∷ xs) ys h =
     cond-false (g x) 0 (suc (index g (xs ++ ys))) (h x (List·Memᴰ·head refl)) ∙ omega (arith, index-skip g xs ys (λ y m. h y (List·Memᴰ·tail m)))
-
-split-at : {A : Type 0} (l : List A) (k : ℕ) (x : A) → At l k x → l ≡ take k l ++ (x ∷ drop (suc k) l)
-split-at [] k x a = absurd (Option·none-ne-some x a)
-split-at (y ∷ l) zero x a = ap (λ z. z ∷ l) (Option·some-injective y x a)
-split-at (y ∷ l) (suc k) x a = ap (λ z. y ∷ z) (split-at l k x a)
-
-pub take-mem : {A : Type 0} (l : List A) (k : ℕ) (x : A) → List·Memᴰ x (take k l) → (j : ℕ) × (j < k) × At l j x
-take-mem l zero x m = elim m [ ]
-take-mem [] (suc k) x m = elim m [ ]
-take-mem (y ∷ l) (suc k) x (List·Memᴰ·head q) = (0, omega arith, ap some (sym q))
-take-mem (y ∷ l) (suc k) x (List·Memᴰ·tail m) = let w = take-mem l k x m in (suc (w .0), omega (arith, w .1), w .2)
 
 empty : (l : List ℕ) → T (isEmpty l) → l ≡ []
 unfolding isEmpty
@@ -249,7 +238,7 @@ odd-answer s t b k w o =
     let n = name-odd b t k (sheet-unbroken s b w) o in
     rw (says-loaded s b w) (ap ranAnswer (runs-odd b (listed t) (left t) (n .0) ∙ ap {B = Checked Ran} (λ (i : ℕ). refused (refuse 14 i 0)) (n .1)))
 
-pub by-refusal : (r q : Refusal) → ranAnswer (refused r) .outcome ≡ refusedBy q → r ≡ q
+by-refusal : (r q : Refusal) → ranAnswer (refused r) .outcome ≡ refusedBy q → r ≡ q
 unfolding ranAnswer
 by-refusal r q e = cc
 

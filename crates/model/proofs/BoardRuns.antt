@@ -15,11 +15,10 @@ use Rattle.model.specs.Services.{whole, blocked, outcomeOf, padded, ranA
 use Rattle.model.specs.Board.{moveOn, startPlaces, boardRun}
 use Rattle.model.specs.BoardTable.{OnSheet, SaysSheet, HasMove, AtStart, BoardRuns, Sixteen, BoardTells}
 use Rattle.model.proofs.Laws.{every-intro}
-use Rattle.model.proofs.Positions.{at-mem, at-value, at-below, below-at}
+use Rattle.model.proofs.Positions.{at-mem, at-value, at-below, below-at, map-at}
 use Rattle.model.proofs.Together.{Halts, step-effective, blocker-halts, run-length, RunEnd, ended, halted, run-end}
 use Rattle.model.proofs.Joint.{AllMoves, halts-blocks, lower-passes, run-walks, walk-runs}
 use Rattle.model.proofs.Faith.{getD-padded}
-use Rattle.model.proofs.GoodLines.{map-at}
 use Rattle.model.proofs.SheetMoves.{sheet-on, board-moves}
 use Rattle.model.proofs.BoardCalls.{sheet-unbroken, board-ran, not-ran}
 use Rattle.model.specs.BoardTable as T

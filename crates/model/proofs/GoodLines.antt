@@ -5,7 +5,6 @@ use mathlib.Core.Path.{_≡_, refl, ap, sym, _∙_, subst}
 use mathlib.Core.Logic.{_⊎_, inl, inr}
 use mathlib.Core.Bool.{Bool, not, _&&_}
 use mathlib.Core.List.{List, [], _∷_, _++_, map, flatMap, append-assoc, append-nil, append-cancel-left, List·Memᴰ, List·Memᴰ·head, List·Memᴰ·tail}
-use mathlib.Core.Option.{some, Option·some-injective, Option·none-ne-some}
 use lib.Dec.{T, leb, ltb, eqb, leb→le, le→leb, ltb→lt, lt→ltb, eqb→eq}
 use lib.ListN.{length, take, drop, length-append}
 use lib.Seq.{take-append-seam, length-take-le}
@@ -14,10 +13,10 @@ use Rattle.model.specs.Bytes.{Name, OneEvent}
 use Rattle.model.specs.Text.{distinct}
 use Rattle.model.specs.Sheet.{NamedMove, NamedLine, Board, writtenMove, moveBytes, writtenLine, writtenCount, writtenSheet}
 use Rattle.model.specs.Board.{isGoodMove, namesOn, isGoodLine}
-use Rattle.model.specs.BoardTable.{GoodMove, GoodLine, BeginsSheet, line, SaysSheet}
+use Rattle.model.specs.BoardTable.{GoodMove, GoodLine, BeginsSheet, SaysSheet}
 use Rattle.model.proofs.Laws.{contra, and-l, and-r, and-i, neqb, eqb-of, every-elim, every-intro}
 use Rattle.model.proofs.ListLaws.{flatMap-append}
-use Rattle.model.proofs.Positions.{at-below, mem-at, at-middle}
+use Rattle.model.proofs.Positions.{at-below, mem-at, at-middle, at-map, map-at}
 use Rattle.model.proofs.Counting.{count-append}
 use Rattle.model.proofs.Words.{past}
 use Rattle.model.proofs.Sheets.{at-snoc}
@@ -27,7 +26,7 @@ use Rattle.model.proofs.SheetNames.{Apart, distinct-apart, apart-distin
 
 -- ---- a good line
 
-pub good-move : (n : ℕ) (x : NamedMove) → MoveFormed x → T (isGoodMove n x) → GoodMove n x
+good-move : (n : ℕ) (x : NamedMove) → MoveFormed x → T (isGoodMove n x) → GoodMove n x
 unfolding isGoodMove
 good-move n x f t =
     let r = and-r (ltb (x .pre) n) (ltb (x .post) n && not (eqb (x .pre) (x .post))) t in
@@ -38,21 +37,11 @@ good-move n x f t =
       differ = λ q. contra (eqb (x .pre) (x .post)) (and-r (ltb (x .post) n) (not (eqb (x .pre) (x .post))) r) (eqb-of (x .pre) (x .post) q);
     }
 
-pub move-good : (n : ℕ) (x : NamedMove) → GoodMove n x → T (isGoodMove n x)
+move-good : (n : ℕ) (x : NamedMove) → GoodMove n x → T (isGoodMove n x)
 unfolding isGoodMove
 move-good n x g =
     and-i (ltb (x .pre) n) (ltb (x .post) n && not (eqb (x .pre) (x .post))) (lt→ltb (x .pre) n (g .pre))
     (and-i (ltb (x .post) n) (not (eqb (x .pre) (x .post))) (lt→ltb (x .post) n (g .post)) (neqb (x .pre) (x .post) (g .differ)))
-
-pub at-map : {A B : Type 0} (g : A → B) (l : List A) (k : ℕ) (y : B) → At (map g l) k y → (x : A) × At l k x × (y ≡ g x)
-at-map g [] k y a = absurd (Option·none-ne-some y a)
-at-map g (x ∷ l) zero y a = (x, refl, sym (Option·some-injective (g x) y a))
-at-map g (x ∷ l) (suc k) y a = at-map g l k y a
-
-pub map-at : {A B : Type 0} (g : A → B) (l : List A) (k : ℕ) (x : A) → At l k x → At (map g l) k (g x)
-map-at g [] k x a = absurd (Option·none-ne-some x a)
-map-at g (y ∷ l) zero x a = ap (λ z. some (g z)) (Option·some-injective y x a)
-map-at g (y ∷ l) (suc k) x a = map-at g l k x a
 
 abbrev eventOf : NamedMove → Name
 eventOf x = x .event

@@ -3,7 +3,7 @@ use Prim.Native.Nat.{ℕ, suc, _+_, _≤_, _<_}
 use native.Mathlib.Omega.{arith}
 use mathlib.Core.Path.{_≡_, refl, ap, sym, _∙_, subst, subst₂}
 use mathlib.Core.Logic.{_⊎_, inl, inr}
-use mathlib.Core.List.{List, [], _∷_, _++_, map, List·Memᴰ, List·Memᴰ·head, List·Memᴰ·tail, List·Memᴰ·append-cases, List·Memᴰ·eq-of-singleton}
+use mathlib.Core.List.{List, [], _∷_, _++_, map, List·Memᴰ, List·Memᴰ·append-cases, List·Memᴰ·eq-of-singleton}
 use mathlib.Core.Option.{Option, none, some, Option·some-injective, Option·none-ne-some}
 use lib.ListN.{length, take, getD}
 use lib.Seq.{length-take-le}
@@ -19,8 +19,8 @@ use Rattle.model.specs.Board.{moveOn, startPlaces}
 use Rattle.model.specs.BoardTable.{OnSheet, FewNames, GoodLine, SaysSheet}
 use Rattle.model.specs.Demands.{Spells, SpellsOne, Shows, Sheet}
 use Rattle.model.proofs.Laws.{order}
-use Rattle.model.proofs.ListLaws.{map-mem}
-use Rattle.model.proofs.Positions.{at-below, below-at, at-mem, mem-at, at-same, at-getD, at-value, getD-mem}
+use Rattle.model.proofs.ListLaws.{map-mem, mem-map}
+use Rattle.model.proofs.Positions.{at-below, below-at, at-mem, mem-at, at-same, at-getD, at-value, getD-mem, at-map, take-mem}
 use Rattle.model.proofs.Bounds.{Within, Listed}
 use Rattle.model.proofs.Places.{Good}
 use Rattle.model.proofs.Moves.{MoveView, moves, stays, move-view, moveOf}
@@ -29,20 +29,12 @@ use Rattle.model.proofs.Limits.{within-of}
 use Rattle.model.proofs.Sheets.{entry, in-moves, moves-in, moves-iff, rising, at-lines, lines-length, place-low, move-low, board-length, sheet-fits}
 use Rattle.model.proofs.OneEvent.{one-refl, one-sym, one-trans}
 use Rattle.model.proofs.Arcs.{in-place}
-use Rattle.model.proofs.GoodLines.{at-map}
+use Rattle.model.proofs.SheetNames.{Apart}
 use Rattle.model.proofs.BoardCalls as B
-
--- names of which no two are one event: the positions
-abbrev pub Once : List Name → Type 0
-Once names = (i j : ℕ) (e f : Name) → At names i e → At names j f → OneEvent e f → i ≡ j
-
-mem-map : {A C : Type 0} (g : A → C) (l : List A) (x : A) → List·Memᴰ x l → List·Memᴰ (g x) (map g l)
-mem-map g (y ∷ l) x (List·Memᴰ·head q) = List·Memᴰ·head (ap g q)
-mem-map g (y ∷ l) x (List·Memᴰ·tail m) = List·Memᴰ·tail (mem-map g l x m)
 
 -- ---- the moves of a line are those of its machine
 
-module _ (p : TransitionSystem) (names : List Name) (size : length names ≡ p .events) (once : Once names) where
+module _ (p : TransitionSystem) (names : List Name) (size : length names ≡ p .events) (once : Apart names) where
   named-at : (e : ℕ) → e < p .events → At names e (getD names e [])
   named-at e l = at-getD names e [] (omega arith)
 
@@ -82,7 +74,7 @@ module _ (p : TransitionSystem) (names : List Name) (size : length names ≡ p .
 -- ---- the sheet of a text
 
 module _ (v : Input) (w : Limits v) (g : (m : Machine) → List·Memᴰ m (v .machines) → Good (system v) m) where
-  pub names-once : Once (v .names)
+  pub names-once : Apart (v .names)
   names-once i j e f a b o = w .distinct i j f (subst (At (v .names) i) o a) b
 
   -- a line of the sheet is that of a machine
@@ -213,7 +205,7 @@ module _ (v : Input) (w : Limits v) (g : (m : Machine) → List·Memᴰ m (v .ma
           (few-names (take k (boardOf v) ++ (namedLine (v .names) (sheetLine (system v) k (c .machine)) ∷ [])) (λ x i. within x (List·Memᴰ·append-cases (take k (boardOf v)) i) (c .is))))
         where
           within : (x : NamedLine) {y : NamedLine} → List·Memᴰ x (take k (boardOf v)) ⊎ List·Memᴰ x (y ∷ []) → l ≡ y → List·Memᴰ x (boardOf v)
-          within x (inl i) q = let j = B.take-mem (boardOf v) k x i in at-mem (boardOf v) (j .0) x (j .2)
+          within x (inl i) q = let j = take-mem (boardOf v) k x i in at-mem (boardOf v) (j .0) x (j .2)
           within x (inr i) q = subst (λ (z : NamedLine). List·Memᴰ z (boardOf v)) (q ∙ sym (List·Memᴰ·eq-of-singleton i)) (at-mem (boardOf v) k l a)
 
 -- "The sheet shows exactly the machines which that theory derives."

@@ -25,7 +25,7 @@ use Rattle.model.proofs.OneEvent.{one-refl, one-sym, one-trans, one-amo
 abbrev pub movesOn : Board → List NamedMove
 movesOn = flatMap (λ (l : NamedLine). l .moves)
 
--- ---- names that are apart
+-- ---- names that are apart: no two are one event
 
 abbrev pub Apart : List Name → Type 0
 Apart es = (i j : ℕ) (e f : Name) → At es i e → At es j f → OneEvent e f → i ≡ j

@@ -63,7 +63,7 @@ first-bytes w h e k l =
     rw q (high (packed (take k w)) (8 * (8 - k)) (rw n at (packed-below (drop k w) (back k w h))))
 
 -- the bytes of a text
-pub each-byte : (s : List ℕ) → ((i : ℕ) → getD s i 0 < 256) → EachByte s
+each-byte : (s : List ℕ) → ((i : ℕ) → getD s i 0 < 256) → EachByte s
 each-byte (a ∷ s) h b (List·Memᴰ·head e) = omega (arith, h 0)
 each-byte (a ∷ s) h b (List·Memᴰ·tail m) = each-byte s (λ i. h (suc i)) b m
 

@@ -16,11 +16,10 @@ use Rattle.model.specs.BoardTable.{OnLine}
 use Rattle.sheet_reader.specs.BoardRows.{Rows, moveIn, storeMove, storeMoves, TellsBoard}
 use Rattle.model.proofs.Laws.{not-T, and-l, and-r, and-i}
 use Rattle.model.proofs.ListLaws.{map-append, map-mem}
-use Rattle.model.proofs.Positions.{at-left, at-below, mem-at, at-middle}
+use Rattle.model.proofs.Positions.{at-left, at-below, mem-at, at-middle, map-at}
 use Rattle.model.proofs.Sheets.{at-snoc}
 use Rattle.model.proofs.OneEvent.{one-sym, one-among}
 use Rattle.model.proofs.SheetNames.{Apart, apart-snoc}
-use Rattle.model.proofs.GoodLines.{map-at}
 use Rattle.sheet_reader.proofs.LineMoves.{with, names-last, Looked, old, new, looked}
 use Rattle.sheet_reader.proofs.BoardRows.{Follows, Stored, fits, stops, store-step, names-more}
 

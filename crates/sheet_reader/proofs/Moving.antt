@@ -34,7 +34,7 @@ use Rattle.sheet_reader.proofs.Adding.{store-none, store-some, name-kno
 not-both : _≡_ {A = Bool} true false → ⊥
 not-both z = T-not true (subst (λ (b : Bool). T (not b)) (sym z) tt) tt
 
-pub moves-move : Moves moveForm
+moves-move : Moves moveForm
 moves-move = moves-written moveForm writtenMove MoveFormed move-sound (λ x o. move-positive x)
 
 -- ---- a move by its words
