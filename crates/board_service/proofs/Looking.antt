@@ -12,8 +12,8 @@ use borrow.Author.Tests.{ltb-true}
 use Rattle.model.specs.Bytes.{bytes, isDigit, isLetter, isNameByte, Name}
 use Rattle.model.specs.Reading.{fail, got, litBytes, name, part}
 use Rattle.model.specs.Text.{eventNumber}
+use Rattle.model.specs.Sheet.{nameForm}
 use Rattle.model.proofs.Laws.{both}
-use Rattle.model.proofs.BoardNames.{nameForm}
 use Rattle.model.proofs.Words.{Spans, spans-part, by, lit-complete, name-complete, name-sound}
 use Rattle.lexer.proofs.Answers.{GotName}
 use Rattle.lexer.proofs.Moves.{moves-literal, moves-name}

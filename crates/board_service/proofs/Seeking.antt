@@ -13,10 +13,10 @@ use Rattle.model.specs.Product.{effective}
 use Rattle.model.specs.Bytes.{Name}
 use Rattle.model.specs.Reading.{fail, got}
 use Rattle.model.specs.Text.{eventNumber}
-use Rattle.model.specs.Sheet.{Board}
+use Rattle.model.specs.Sheet.{Board, nameForm}
 use Rattle.model.specs.Board.{moveOn}
 use Rattle.model.proofs.Laws.{T-true, T-false}
-use Rattle.model.proofs.BoardNames.{nameForm, names-end, names-more, names-odd}
+use Rattle.model.proofs.BoardNames.{names-end, names-more, names-odd}
 use Rattle.sheet_reader.specs.Lent.{Lent, lentRows}
 use Rattle.board_service.specs.declared.name_list.NextName.{NextName}
 use Rattle.board_service.specs.declared.name_list.NextName.the-variants.{Odd, Known}

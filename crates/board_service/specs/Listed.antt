@@ -8,7 +8,7 @@ use lib.ListN.{length}
 use Rattle.model.specs.Bytes.{Name, IsName}
 use Rattle.model.specs.Reading.{fail, got}
 use Rattle.model.specs.Text.{eventNumber, distinct}
-use Rattle.model.proofs.BoardNames.{nameForm}
+use Rattle.model.specs.Sheet.{nameForm}
 use Rattle.lexer.specs.Words as Words
 use Rattle.names.specs.Held.{PackedNames}
 use Rattle.board_service.specs.declared.name_list.QuickName.{QuickName}

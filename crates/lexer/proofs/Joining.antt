@@ -15,7 +15,7 @@ after-same fail h = refl
 after-same (got a n) h = h a n
 
 -- the first of two readers, and those behind them
-pub after-both : {A B C : Type 0} (o : Parsed A) (f : A → ℕ → Parsed B) (g : B → ℕ → Parsed C) {k : A → ℕ → Parsed C}
+after-both : {A B C : Type 0} (o : Parsed A) (f : A → ℕ → Parsed B) (g : B → ℕ → Parsed C) {k : A → ℕ → Parsed C}
     → ((a : A) (n : ℕ) → k a n ≡ after (f a n) g) → after o k ≡ after (after o f) g
 after-both o f g h = after-same o h ∙ sym (after-after o f g)
 

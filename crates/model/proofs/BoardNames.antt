@@ -9,8 +9,8 @@ use lib.Dec.{T}
 use lib.ListN.{length, drop}
 use Rattle.model.specs.Lists.{every, index, isEmpty}
 use Rattle.model.specs.Bytes.{bytes, isNameByte, isLetter, isDigit, Name, IsName, OneEvent}
-use Rattle.model.specs.Reading.{Reader, _>>=_, _>>_, give, lit, fail, got, litBytes, name}
-use Rattle.model.specs.Sheet.{Board}
+use Rattle.model.specs.Reading.{fail, got, litBytes, name}
+use Rattle.model.specs.Sheet.{Board, nameForm}
 use Rattle.model.specs.Product.{effective}
 use Rattle.model.specs.Board.{moveOn, splitNames}
 use Rattle.model.specs.BoardTable.{OnSheet, SaysSheet, ended}
@@ -20,13 +20,6 @@ use Rattle.model.proofs.Words.{past, done, by, lit-complete, lit-sound,
 use Rattle.model.proofs.NameLists.{unbroken-name, split-word, Split}
 use Rattle.model.proofs.SheetMoves.{on-sheet}
 use Rattle.model.proofs.BoardCalls.{split-list}
-
--- a name and its byte 10
-unfoldable pub nameForm : Reader Name
-nameForm = do
-  e ← name
-  lit "\n"
-  give e
 
 -- the names on a good sheet are names
 one-name : (e f : Name) → OneEvent e f → IsName f → IsName e

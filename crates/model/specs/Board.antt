@@ -19,8 +19,11 @@ use Rattle.model.specs.Services.{Lent, lend, RunAnswer, ranAnswer}
 -- ---- a machine's line after those of the machines before it
 
 -- of a machine with n places: "move ends are below the count of places, the ends of a move differ"
+abbrev pub goodEnds : ℕ → ℕ → ℕ → Bool
+goodEnds n q r = ltb q n && (ltb r n && not (eqb q r))
+
 unfoldable pub isGoodMove : ℕ → NamedMove → Bool
-isGoodMove n x = ltb (x .pre) n && (ltb (x .post) n && not (eqb (x .pre) (x .post)))
+isGoodMove n x = goodEnds n (x .pre) (x .post)
 
 -- these names, and another if it is not among them
 unfoldable pub addName : List Name → Name → List Name

@@ -12,7 +12,7 @@ use Rattle.model.specs.Lists.{isSome, exists}
 use Rattle.model.specs.Bytes.{Name, IsName, OneEvent, sameName}
 use Rattle.model.specs.Text.{eventNumber, distinct}
 use Rattle.model.specs.Sheet.{NamedMove}
-use Rattle.model.specs.Board.{isGoodMove, addName}
+use Rattle.model.specs.Board.{goodEnds, isGoodMove, addName}
 use Rattle.model.proofs.Laws.{T-true, T-false, not-T, and-l, and-r, not-below}
 use Rattle.model.proofs.ListLaws.{store}
 use Rattle.model.proofs.OneEvent.{one-among}
@@ -25,21 +25,21 @@ use Rattle.sheet_lines.specs.declared.MoveWords.{MoveWords}
 use Rattle.sheet_reader.specs.declared.moves.Added.{Added}
 use Rattle.sheet_reader.specs.BoardRows.{Rows, cell, moveIn, storeMove}
 use Rattle.sheet_reader.specs.Lent.{Lent, lentRows, rowsOf, Held, HoldsRows}
-use Rattle.sheet_reader.specs.Storing.{goodEnds, StoresMove, Leaves, IsWord, moveOf, AddsMove}
+use Rattle.sheet_reader.specs.Storing.{StoresMove, Leaves, IsWord, moveOf, AddsMove}
 use Rattle.sheet_reader.proofs.LineMoves.{Looked, old, new, looked}
 
 -- ---- by the event's number
 
-ends-low : (p q n : ℕ) → goodEnds p q n ≡ true → (p < n) × (q < n)
+ends-low : (p q n : ℕ) → goodEnds n p q ≡ true → (p < n) × (q < n)
 ends-low p q n e =
-    let t : T (goodEnds p q n) = subst T (sym e) tt in
+    let t : T (goodEnds n p q) = subst T (sym e) tt in
     let r = and-r (ltb p n) (ltb q n && not (eqb p q)) t in
     (ltb→lt p n (and-l (ltb p n) (ltb q n && not (eqb p q)) t), ltb→lt q n (and-l (ltb q n) (not (eqb p q)) r))
 
-pub pre-byte : (p q n : ℕ) → goodEnds p q n ≡ true → n ≤ 64 → p < 256
+pub pre-byte : (p q n : ℕ) → goodEnds n p q ≡ true → n ≤ 64 → p < 256
 pre-byte p q n e h = omega (arith, ends-low p q n e .0)
 
-pub post-byte : (p q n : ℕ) → goodEnds p q n ≡ true → n ≤ 64 → q < 256
+pub post-byte : (p q n : ℕ) → goodEnds n p q ≡ true → n ≤ 64 → q < 256
 post-byte p q n e h = omega (arith, ends-low p q n e .1)
 
 module _ (m n e p q : ℕ) (pre post : List ℕ) where
@@ -49,13 +49,13 @@ module _ (m n e p q : ℕ) (pre post : List ℕ) where
   abbrev Stores : Bool → List ℕ → List ℕ → Type 0
   Stores = StoresMove m n e p q pre post
 
-  no-store : (goodEnds p q n && not taken) ≡ false → Stores false pre post
+  no-store : (goodEnds n p q && not taken) ≡ false → Stores false pre post
   no-store h = record { tested = sym h; pre-set = λ z. absurd (subst T (sym z) tt); post-set = λ z. absurd (subst T (sym z) tt) }
 
-  pub stores-ends : goodEnds p q n ≡ false → Stores false pre post
+  pub stores-ends : goodEnds n p q ≡ false → Stores false pre post
   stores-ends h = no-store (ap (λ (b : Bool). b && not taken) h)
 
-  module _ (g : goodEnds p q n ≡ true) where
+  module _ (g : goodEnds n p q ≡ true) where
     pub stores-taken : getD pre (cell e m) 0 < 64 → Stores false pre post
     unfolding moveAt isSome
     stores-taken h = no-store (rw (g, T-true (ltb (getD pre (cell e m) 0) 64) (lt→ltb (getD pre (cell e m) 0) 64 h)))
@@ -78,10 +78,10 @@ module _ {m n e p q : ℕ} {pre post : List ℕ} {r : Bool} {pre′ post′ : Li
   abbrev move : NamedMove
   move = record { event = w; pre = p; post = q }
 
-  test-is : (goodEnds p q n && (ltb (eventNumber ns w) 64 && not (isSome (moveAt pre post m (eventNumber ns w))))) ≡ r
+  test-is : (goodEnds n p q && (ltb (eventNumber ns w) 64 && not (isSome (moveAt pre post m (eventNumber ns w))))) ≡ r
   test-is =
-      subst (λ (i : ℕ). (goodEnds p q n && (ltb i 64 && not (isSome (moveAt pre post m i)))) ≡ r) k
-      (ap (λ (b : Bool). goodEnds p q n && (b && not (isSome (moveAt pre post m e)))) (T-true (ltb e 64) (lt→ltb e 64 low)) ∙ sym (f .tested))
+      subst (λ (i : ℕ). (goodEnds n p q && (ltb i 64 && not (isSome (moveAt pre post m i)))) ≡ r) k
+      (ap (λ (b : Bool). goodEnds n p q && (b && not (isSome (moveAt pre post m e)))) (T-true (ltb e 64) (lt→ltb e 64 low)) ∙ sym (f .tested))
 
   pub store-none : r ≡ false → storeMove m n before move ≡ none
   unfolding storeMove isGoodMove

@@ -9,17 +9,16 @@ use lib.Dec.{T, T-not, eqb, leb, ltb, leb→le, le→leb}
 use lib.ListN.{length}
 use Rattle.model.specs.Lists.{every}
 use Rattle.model.specs.Bytes.{bytes, Name}
-use Rattle.model.specs.Reading.{Parsed, fail, got, after, litBytes, figure, items, many}
+use Rattle.model.specs.Reading.{Parsed, fail, got, after, litBytes, items, many}
 use Rattle.model.specs.Text.{distinct}
-use Rattle.model.specs.Sheet.{NamedMove, NamedLine, Board, moveForm, lineForm}
+use Rattle.model.specs.Sheet.{NamedMove, NamedLine, Board, moveForm, Head, headForm, lineForm}
 use Rattle.model.specs.Board.{isGoodMove, addNames, namesOn, isGoodLine}
 use Rattle.model.proofs.Laws.{and-l, and-r, and-i}
 use Rattle.model.proofs.SheetNames.{distinct-apart, apart-distinct}
-use Rattle.lexer.proofs.Joining.{after-both}
 use Rattle.sheet_lines.specs.declared.HeadWords.{HeadWords}
 use Rattle.sheet_lines.specs.declared.HeadAt.{HeadAt}
 use Rattle.sheet_lines.specs.declared.HeadAt.the-variants as H
-use Rattle.sheet_lines.specs.Moves.{Head, headForm, asHead}
+use Rattle.sheet_lines.specs.Moves.{asHead}
 use Rattle.sheet_reader.specs.declared.moves.MovesAt.{MovesAt}
 use Rattle.sheet_reader.specs.declared.machine_line.LineAt.{LineAt}
 use Rattle.sheet_reader.specs.BoardRows.{Rows, storeMoves, TellsBoard}
@@ -38,21 +37,9 @@ module _ (s : List ℕ) where
   abbrev rest : Head → ℕ → Parsed NamedLine
   rest h m = after (items moveForm s m) (λ xs k. after (litBytes (bytes ")\n") s k) (λ _ n. got (lineWith h xs) n))
 
-  line-head : (at : ℕ) → lineForm s at ≡ after (headForm s at) rest
-  unfolding lineForm headForm
-  line-head at =
-      after-both (litBytes (bytes "(machine ") s at) _ rest λ _ a.
-      after-both (figure s a) _ rest λ k b.
-      after-both (litBytes (bytes " (places ") s b) _ rest λ _ c.
-      after-both (figure s c) _ rest λ n d.
-      after-both (litBytes (bytes ") (start ") s d) _ rest λ _ e.
-      after-both (figure s e) _ rest λ q f.
-      after-both (litBytes (bytes ")") s f) _ rest λ _ g.
-      refl
-
   pub head-missing : {r : HeadAt} (at : ℕ) → r ≡ asHead (headForm s at) → r ≡ H.Missing → lineForm s at ≡ fail
-  unfolding asHead
-  head-missing {r} at p q = line-head at ∙ go (headForm s at) (sym q ∙ p)
+  unfolding lineForm asHead
+  head-missing {r} at p q = go (headForm s at) (sym q ∙ p)
     where
       go : (o : Parsed Head) → H.Missing ≡ asHead o → after o rest ≡ fail
       go fail e = refl
@@ -66,8 +53,8 @@ module _ (s : List ℕ) where
   closed h = after (litBytes (bytes ")\n") s (many moveForm s (h .next) .1)) (λ _ n. got (lineWith (headOf h) (many moveForm s (h .next) .0)) n)
 
   pub head-got : {r : HeadAt} {h : HeadWords} (at : ℕ) → r ≡ asHead (headForm s at) → r ≡ H.Found h → lineForm s at ≡ closed h
-  unfolding asHead
-  head-got {r} {h} at p q = line-head at ∙ go (headForm s at) (sym q ∙ p)
+  unfolding lineForm asHead
+  head-got {r} {h} at p q = go (headForm s at) (sym q ∙ p)
     where
       go : (o : Parsed Head) → H.Found h ≡ asHead o → after o rest ≡ closed h
       go fail e = let z : _≡_ {A = ℕ} 0 1 = cc in absurd (omega arith)

@@ -4,12 +4,12 @@ use mathlib.Core.Path.{_≡_}
 use mathlib.Core.Bool.{Bool, true, false, not, _&&_}
 use mathlib.Core.List.{List}
 use mathlib.Core.Option.{Option, none, some}
-use lib.Dec.{eqb, ltb}
 use lib.ListN.{length, set}
 use Rattle.model.specs.Lists.{isSome}
 use Rattle.model.specs.Bytes.{Name, IsName}
 use Rattle.model.specs.Reading.{Parsed, fail, got, many}
 use Rattle.model.specs.Sheet.{NamedMove, moveForm}
+use Rattle.model.specs.Board.{goodEnds}
 use Rattle.lexer.specs.Words as Words
 use Rattle.regions.specs.Moves.{moveAt}
 use Rattle.sheet_lines.specs.declared.MoveWords.{MoveWords}
@@ -20,13 +20,9 @@ use Rattle.sheet_reader.specs.declared.moves.MovesAt.{MovesAt}
 use Rattle.sheet_reader.specs.BoardRows.{Rows, cell, storeMove, storeMoves}
 use Rattle.sheet_reader.specs.Lent.{Lent, rowsOf, Held, HoldsRows}
 
--- the ends of a move are places of a machine with n, and differ
-abbrev pub goodEnds : ℕ → ℕ → ℕ → Bool
-goodEnds p q n = ltb p n && (ltb q n && not (eqb p q))
-
 -- the move of event e from p to q on machine m, which has n places
 pub record StoresMove (m n e p q : ℕ) (pre post : List ℕ) (r : Bool) (pre′ post′ : List ℕ) : Type 0 where
-  pub tested : r ≡ (goodEnds p q n && not (isSome (moveAt pre post m e)))
+  pub tested : r ≡ (goodEnds n p q && not (isSome (moveAt pre post m e)))
   pub pre-set : r ≡ true → pre′ ≡ set pre (cell e m) p
   pub post-set : r ≡ true → post′ ≡ set post (cell e m) q
 

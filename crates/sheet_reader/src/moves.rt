@@ -1,8 +1,7 @@
 // The moves of a machine's line: each is looked up, tested and stored at once.
 ghost use mathlib.Core.Path.{_≡_};
-ghost use mathlib.Core.Bool.{not, _&&_};
 ghost use Prim.Native.Nat.{_<_, _≤_};
-ghost use lib.Dec.{eqb, ltb};
+ghost use Rattle.model.specs.Board.{goodEnds};
 ghost use Rattle.sheet_reader.specs.Lent.{lentRows, Holding};
 ghost use Rattle.sheet_reader.specs.Storing.{StoresMove, AddsMove, ReadsMove, ReadsMoves};
 use model::MAX_EVENTS;
@@ -24,7 +23,7 @@ const PLACE_BOUND: u8 = MAX_PLACES as u8;
 
 // The ends of a move are places of the machine, and differ.
 fn good_ends(from: usize, to: usize, places: usize) -> bool
-    ensures { λ r. ⌜ r ≡ (ltb from places && (ltb to places && not (eqb from to))) ⌝ }
+    ensures { λ r. ⌜ r ≡ goodEnds places from to ⌝ }
 {
     if from < places {
         if to < places {

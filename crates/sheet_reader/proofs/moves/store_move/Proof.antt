@@ -2,14 +2,14 @@
 use mathlib.Core.Path.{_≡_, sym, _∙_}
 use mathlib.Core.Bool.{true}
 use borrow.Author.Tests.{not-true, not-false}
-use Rattle.sheet_reader.specs.Storing.{goodEnds}
+use Rattle.model.specs.Board.{goodEnds}
 use Rattle.sheet_reader.proofs.Adding.{pre-byte, post-byte, stores-ends, stores-taken, stores-free}
 use borrow.Author.Needs.{needs}
 use Rattle.sheet_reader.proofs.moves.store_move.Statement.{statement}
 use Rattle.sheet_reader.proofs.moves.store_move.Tie as tie
 
 -- the ends are places of the machine
-ends : (c : tie.Else1) → goodEnds (c .before .before .args .from) (c .before .before .args .to) (c .before .before .args .places) ≡ true
+ends : (c : tie.Else1) → goodEnds (c .before .before .args .places) (c .before .before .args .from) (c .before .before .args .to) ≡ true
 ends c = sym (c .before .good-ends .ensures) ∙ not-false _ (c .if1 .left)
 
 good-ends-requires : tie.Need-good-ends-requires
