@@ -11,7 +11,7 @@ use Rattle.model.specs.Machine.{placeIn, places, crosses, move, duplicateState,
 use Rattle.model.specs.Bytes.{bytes, isDigit, isLetter, isNameByte, isFigure, isName, digits, numeral, numeralUpTo}
 use Rattle.model.specs.Form.{written, isMachineLine, isStepLine, statesLine, spacedName, eventsLine, stepLine, spacedFigure, place, machineLine, lineAfter}
 use Rattle.model.specs.Text.{eventNumber, valueOf, distinct, inLimit, isDeclared, ended, lineThen, linesFrom, read, nameAt}
-use Rattle.model.specs.Sheet.{addMove, movesBelow, sheetLine, sheetLines, moveBytes, writtenMove, writtenLine, writtenCount, writtenSheet, boardOf, sheet, countForm, moveForm, lineForm}
+use Rattle.model.specs.Sheet.{addMove, movesBelow, sheetLine, sheetLines, moveBytes, writtenMove, writtenLine, writtenCount, writtenSheet, boardOf, sheet, countForm, moveForm, headForm, lineForm}
 use Rattle.model.specs.Board.{isGoodMove, addName, addNames, namesOn, isGoodLine, machineThen, machinesFrom, countThen, readSheet, moveOn, startPlaces, splitNames, runNames}
 use Rattle.model.specs.Printed.{printedBy, fitting, spaced, printedCheck, nameLine, printedName, ranWord, placesWord, ranLine, printedRun, printedSheet, printedBoard}
 use Rattle.model.specs.Services.{asFarAs7, asFarAs10, asFarAs12, name, runEvents, printed, writtenAnswer, writtenRefusal}
@@ -51,13 +51,15 @@ pub record AnswersOnSheet (y : List ℕ) : Type 0 where
   -- a text is no sheet
   pub text : answerTo (bytes "board" ∷ []) (bytes Y) ≡ some (bytes "(refused 15 1 0)\n")
   pub text-again : answerTo (bytes "sheet" ∷ []) (bytes Y) ≡ some (bytes "(refused 15 1 0)\n")
+  -- 15 comes before 13
+  pub text-short : answerTo (bytes "sheet" ∷ bytes "0" ∷ []) (bytes Y) ≡ some (bytes "(refused 15 1 0)\n")
 
 pub answers-on-sheet : AnswersOnSheet (bytes ySheet)
 unfolding exists every first index isSome isEmpty flatMap flatten moveFrom both oneMore inAlphabet effective fire fireAll productStep blocker runFrom isDigit isLetter
-    isNameByte isFigure isName digits numeral numeralUpTo distinct moveBytes writtenMove writtenLine writtenCount writtenSheet countForm moveForm lineForm isGoodMove
+    isNameByte isFigure isName digits numeral numeralUpTo distinct moveBytes writtenMove writtenLine writtenCount writtenSheet countForm moveForm headForm lineForm isGoodMove
     addName addNames namesOn isGoodLine machineThen machinesFrom countThen readSheet moveOn startPlaces splitNames runNames printedBy fitting spaced ranWord placesWord
     ranLine printedSheet printedBoard writtenRefusal serviceSaid isNumeral numberSaid sizeSaid answerBy answerTo
-answers-on-sheet = record { written = refl; short = refl; ran = refl; blocked = refl; no-name = refl; two-sizes = refl; text = refl; text-again = refl }
+answers-on-sheet = record { written = refl; short = refl; ran = refl; blocked = refl; no-name = refl; two-sizes = refl; text = refl; text-again = refl; text-short = refl }
 
 -- a row of three words, the second empty, the last with no byte 0 behind it
 pub three-words : wordsIn (97 ∷ 98 ∷ 0 ∷ 0 ∷ 99 ∷ []) ≡ (97 ∷ 98 ∷ []) ∷ [] ∷ (99 ∷ []) ∷ []
