@@ -18,3 +18,5 @@ pub mod Cutting
 pub mod Ending
 -- the events that they say, in the same row
 pub mod Taking
+-- a good sheet is written again
+pub mod Restoring
