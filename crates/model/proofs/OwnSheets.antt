@@ -30,7 +30,6 @@ use Rattle.model.proofs.Sheets.{entry, in-moves, moves-in, moves-iff, r
 use Rattle.model.proofs.OneEvent.{one-refl, one-sym, one-trans}
 use Rattle.model.proofs.Arcs.{in-place}
 use Rattle.model.proofs.SheetNames.{Apart}
-use Rattle.model.proofs.BoardCalls as B
 
 -- ---- the moves of a line are those of its machine
 
