@@ -4,20 +4,22 @@ use native.Mathlib.Omega.{arith}
 use mathlib.Core.Path.{_≡_, refl, ap, sym, _∙_, subst}
 use mathlib.Core.Bool.{Bool, true, false, cond, and-eq-true-iff}
 use mathlib.Core.List.{List, _∷_, _++_, List·Memᴰ}
+use mathlib.Core.Option.{Option, none}
 use lib.Dec.{leb}
 use lib.ListN.{length}
 use borrow.Author.Tests.{le-leb}
 use Rattle.model.specs.Machine.{Place}
 use Rattle.model.specs.Bytes.{bytes, Name, IsName}
-use Rattle.model.specs.Reading.{Parsed, fail, got, after, litBytes, figure, name, items}
-use Rattle.model.specs.Form.{Line, states, events, step, machine, statesLine, spacedName, eventsLine, stepLine, place, machineLine}
+use Rattle.model.specs.Reading.{Parsed, fail, got, after, give, instead, either, litBytes, figure, name, items}
+use Rattle.model.specs.Form.{Line, states, events, step, machine, startOf, startGiven, statesLine, spacedName, eventsLine, stepLine, place, machineLine}
 use Rattle.model.proofs.Words.{name-sound, items-sound}
-use Rattle.lexer.specs.declared.Word.{Word}
-use Rattle.lexer.specs.declared.Word.the-variants.{Missing, Found}
 use Rattle.lexer.specs.Words.{high, low}
 use Rattle.lexer.proofs.Moves.{spaced-name-sound}
 use Rattle.rows.specs.Rows.{placeRow}
-use Rattle.lines.specs.Lines.{asStates, namesFrom, EventRows, withNames, noEvents, asEvents, StoresNames, asStep, duplicateMark, allBelow, hasRow, withoutRow, noMachine, machineRow, asMachine}
+use Rattle.lines.specs.Lines.{asGiven, asStates, namesFrom, EventRows, withNames, noEvents, asEvents, StoresNames, asStep, duplicateMark, allBelow, hasRow, withoutRow, noMachine, machineRow, asMachine}
+use Rattle.lines.specs.declared.Given.{Given}
+use Rattle.lines.specs.declared.StatesLine.{StatesLine}
+use Rattle.lines.specs.declared.StatesLine.the-variants as N
 use Rattle.lines.specs.declared.EventsAt.{EventsAt}
 use Rattle.lines.specs.declared.StepWords.{StepWords}
 use Rattle.lines.specs.declared.StepLine.{StepLine}
@@ -40,13 +42,14 @@ which (missed e) f g = f e
 which (read a n e h) f g = g a n e h
 
 module _ (s : List ℕ) (at : ℕ) where
-  states-only : Only states (λ _. Unit {0}) (statesLine s at)
+  states-only : Only (λ (x : ℕ × Option ℕ). states (x .0) (x .1)) (λ _. Unit {0}) (statesLine s at)
   unfolding statesLine
   states-only =
       only-after (litBytes (bytes "(states ") s at) _ λ _ m _.
       only-after (figure s m) _ λ n k _.
-      only-after (litBytes (bytes ")\n") s k) _ λ _ next _.
-      read n next refl tt
+      only-after (either startGiven (give none) s k) (λ o l. after (litBytes (bytes ")\n") s l) (λ _ next. got (states n o) next)) λ o l _.
+      only-after (litBytes (bytes ")\n") s l) _ λ _ next _.
+      read (n, o) next refl tt
 
   events-only : Only events (λ es. (e : Name) → List·Memᴰ e es → IsName e) (eventsLine s at)
   unfolding eventsLine
@@ -82,17 +85,34 @@ other : {C : Type 0} {b : Bool} → b ≡ false → b ≡ true → C
 other p q = let z : _≡_ {A = ℕ} 0 1 = cc in absurd (omega arith)
 
 -- the code's answers
-module _ (s : List ℕ) (at : ℕ) {r : Word} (p : r ≡ asStates (statesLine s at)) where
-  pub states-got : {n next : ℕ} → r ≡ Found n next → statesLine s at ≡ got (states n) next
+pub record GotStart (o : Parsed (Option ℕ)) (r : Given) : Type 0 where
+  pub given : Option ℕ
+  pub read : o ≡ got given (r .next)
+  pub start : startOf given ≡ r .start
+
+pub start-got : (at : ℕ) (o : Parsed (Option ℕ)) {r : Given} → r ≡ asGiven at o → GotStart (instead o (got none at)) r
+unfolding asGiven
+start-got at fail p = rw p (record { given = none; read = refl; start = refl })
+start-got at (got o next) p = rw p (record { given = o; read = refl; start = refl })
+
+-- line 1 gives this start, or none and it is 0
+pub record GotStates (o : Parsed Line) (n k next : ℕ) : Type 0 where
+  pub start : Option ℕ
+  pub read : o ≡ got (states n start) next
+  pub initial : startOf start ≡ k
+
+module _ (s : List ℕ) (at : ℕ) {r : StatesLine} (p : r ≡ asStates (statesLine s at)) where
+  pub states-got : {n k next : ℕ} → r ≡ N.Found n k next → GotStates (statesLine s at) n k next
   unfolding asStates
-  states-got {n} {next} q =
-      which (states-only s at) (λ e. let f = ap asStates e in let z : _≡_ {A = ℕ} 0 1 = cc in absurd (omega arith)) λ m k e _.
+  states-got {n} {k} {next} q =
+      which (states-only s at) (λ e. let f = ap asStates e in let z : _≡_ {A = ℕ} 0 1 = cc in absurd (omega arith)) λ (m, o) l e _.
       let f = ap asStates e in
       let a : m ≡ n = cc in
-      let b : k ≡ next = cc in
-      cc
+      let b : l ≡ next = cc in
+      let c : startOf o ≡ k = cc in
+      record { start = o; read = cc; initial = c }
 
-  pub states-missing : r ≡ Missing → statesLine s at ≡ fail
+  pub states-missing : r ≡ N.Missing → statesLine s at ≡ fail
   unfolding asStates
   states-missing q =
       which (states-only s at) (λ e. e) λ m k e _.

@@ -3,6 +3,7 @@ use Prim.Native.Nat.{ℕ, _+_}
 use mathlib.Core.Path.{_≡_}
 use mathlib.Core.Bool.{Bool, true, false, cond, _&&_}
 use mathlib.Core.List.{List, [], _∷_, map, flatten}
+use mathlib.Core.Option.{Option}
 use lib.Dec.{leb, ltb, eqb}
 use lib.ListN.{length, replicate}
 use lib.Seq.{sets}
@@ -10,22 +11,28 @@ use Rattle.model.specs.Lists.{every, count, lowest}
 use Rattle.model.specs.Machine.{Place}
 use Rattle.model.specs.Bytes.{Name}
 use Rattle.model.specs.Reading.{Parsed, fail, got}
-use Rattle.model.specs.Form.{Line, states, events, step, machine}
-use Rattle.lexer.specs.declared.Word.{Word}
-use Rattle.lexer.specs.declared.Word.the-variants.{Missing, Found}
+use Rattle.model.specs.Form.{Line, states, events, step, machine, startOf}
 use Rattle.lexer.specs.Words.{high, low}
+use Rattle.lines.specs.declared.Given.{Given}
+use Rattle.lines.specs.declared.StatesLine.{StatesLine}
+use Rattle.lines.specs.declared.StatesLine.the-variants as N
 use Rattle.lines.specs.declared.EventsAt.{EventsAt}
 use Rattle.lines.specs.declared.StepLine.{StepLine}
 use Rattle.lines.specs.declared.StepLine.the-variants as S
 use Rattle.lines.specs.declared.MachineLine.{MachineLine}
 use Rattle.rows.specs.Rows.{placeRow, orNoState}
 
-unfoldable pub asStates : Parsed Line → Word
-asStates fail = Missing
-asStates (got (states n) next) = Found n next
-asStates (got (events es) next) = Missing
-asStates (got (step a e b) next) = Missing
-asStates (got (machine ps) next) = Missing
+-- what a states line answers at a position after its count: the start, 0 and the same position where none is given
+unfoldable pub asGiven : ℕ → Parsed (Option ℕ) → Given
+asGiven at fail = record { start = 0; next = at }
+asGiven at (got o next) = record { start = startOf o; next = next }
+
+unfoldable pub asStates : Parsed Line → StatesLine
+asStates fail = N.Missing
+asStates (got (states n o) next) = N.Found n (startOf o) next
+asStates (got (events es) next) = N.Missing
+asStates (got (step a e b) next) = N.Missing
+asStates (got (machine ps) next) = N.Missing
 
 -- the position of each name of a list that begins at a position: each stands after a space
 unfoldable pub spots : ℕ → List Name → List ℕ
@@ -68,7 +75,7 @@ noEvents = record { formed = false; count = 0; next = 0 }
 
 unfoldable pub asEvents : Parsed Line → EventsAt
 asEvents fail = noEvents
-asEvents (got (states n) next) = noEvents
+asEvents (got (states n o) next) = noEvents
 asEvents (got (events es) next) = record { formed = true; count = length es; next = next }
 asEvents (got (step a e b) next) = noEvents
 asEvents (got (machine ps) next) = noEvents
@@ -79,7 +86,7 @@ pub record StoresNames (at : ℕ) (o : Parsed Line) (before after : EventRows) :
 
 unfoldable pub asStep : Parsed Line → StepLine
 asStep fail = S.Missing
-asStep (got (states n) next) = S.Missing
+asStep (got (states n o) next) = S.Missing
 asStep (got (events es) next) = S.Missing
 asStep (got (step a e b) next) = S.Found (record { source = a; «len» = length e; «high» = high e; «low» = low e; target = b; next = next })
 asStep (got (machine ps) next) = S.Missing
@@ -110,7 +117,7 @@ machineRow n ps next =
 
 unfoldable pub asMachine : ℕ → Parsed Line → MachineLine
 asMachine n fail = noMachine
-asMachine n (got (states k) next) = noMachine
+asMachine n (got (states k o) next) = noMachine
 asMachine n (got (events es) next) = noMachine
 asMachine n (got (step a e b) next) = noMachine
 asMachine n (got (machine ps) next) =

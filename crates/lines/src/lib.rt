@@ -4,8 +4,8 @@ ghost use Prim.Native.Nat.{_≤_};
 ghost use mathlib.Core.Bool.{_&&_};
 ghost use lib.Dec.{leb};
 ghost use Rattle.model.specs.Reading.{many};
-ghost use Rattle.model.specs.Form.{statesLine, eventsLine, stepLine, machineLine, spacedName};
-ghost use Rattle.lines.specs.Lines.{asStates, eventRows, FullRows, withNames, noEvents, asEvents, StoresNames, asStep, asMachine, withoutRow};
+ghost use Rattle.model.specs.Form.{startGiven, statesLine, eventsLine, stepLine, machineLine, spacedName};
+ghost use Rattle.lines.specs.Lines.{asGiven, asStates, eventRows, FullRows, withNames, noEvents, asEvents, StoresNames, asStep, asMachine, withoutRow};
 ghost use Rattle.lines.specs.Marking.{asNames};
 use lexer::NameWord;
 use lexer::Word;
@@ -22,6 +22,22 @@ use rows::NO_STATE;
 use rows::UNPLACED;
 
 mod marks; // the places of a machine line, marked in a row
+
+// A states line: how many states, the start, and the position after the line; or none of its form.
+pub enum StatesLine {
+    Missing,
+    Found {
+        count: usize,
+        start: usize,
+        next: usize,
+    },
+}
+
+// The start that a states line gives, and the position after it.
+struct Given {
+    start: usize,
+    next: usize,
+}
 
 // An events line: how many names, and the position after it.
 pub struct EventsAt {
@@ -57,20 +73,35 @@ pub struct MachineLine {
     pub next: usize,
 }
 
-// The states line at a position: how many there are.
-pub fn read_states(s: &[u8], at: usize) -> Word
+// The start on a states line, at the position after its count: 0 and the same position if none is given.
+fn read_start(s: &[u8], at: usize) -> Given
+    ensures { λ r. ⌜ r ≡ asGiven at (startGiven (now (s .entry)) at) ⌝ }
+{
+    let Word::Found { value: _, next: a } = read_literal(s, at, b" start ") else {
+        return Given { start: 0, next: at };
+    };
+    let Word::Found { value, next } = read_figure(s, a) else {
+        return Given { start: 0, next: at };
+    };
+    Given { start: value, next }
+}
+
+// The states line at a position.
+pub fn read_states(s: &[u8], at: usize) -> StatesLine
     ensures { λ r. ⌜ r ≡ asStates (statesLine (now (s .entry)) at) ⌝ }
 {
     let Word::Found { value: _, next: a } = read_literal(s, at, b"(states ") else {
-        return Word::Missing;
+        return StatesLine::Missing;
     };
-    let Word::Found { value, next: b } = read_figure(s, a) else {
-        return Word::Missing;
+    let Word::Found { value: count, next: b } = read_figure(s, a) else {
+        return StatesLine::Missing;
     };
-    let Word::Found { value: _, next } = read_literal(s, b, b")\n") else {
-        return Word::Missing;
+    let given = read_start(s, b);
+    let start = given.start;
+    let Word::Found { value: _, next } = read_literal(s, given.next, b")\n") else {
+        return StatesLine::Missing;
     };
-    Word::Found { value, next }
+    StatesLine::Found { count, start, next }
 }
 
 // How many names, and the position after them.

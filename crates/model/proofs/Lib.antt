@@ -27,7 +27,7 @@ pub mod Order
 pub mod Covering
 pub mod Limits
 pub mod Rows
--- the text: words, lines, the sheet's lines, chains of lines, values, rows 1 to 3
+-- the text: words, lines, the sheet's lines, chains of lines, values, texts, rows 1 to 3
 pub mod Words
 pub mod Numerals
 pub mod Lines
@@ -36,6 +36,7 @@ pub mod SheetForms
 pub mod Chains
 pub mod LineEnds
 pub mod Values
+pub mod Texts
 pub mod Whole
 -- the parts of demand 3: all machines and Run, the kept machines, a list that tells apart
 pub mod Faith

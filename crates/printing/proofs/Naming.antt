@@ -15,6 +15,7 @@ use Rattle.model.specs.Printed.{printedBy, nameLine, printedName}
 use Rattle.model.proofs.Laws.{order}
 use Rattle.model.proofs.Order.{Verdict, turned-down, let-through}
 use Rattle.model.proofs.Positions.{getD-mem}
+use Rattle.model.proofs.Texts.{limits-of}
 use Rattle.model.proofs.Verdicts.{verdict7}
 use Rattle.rows.specs.declared.Verdict.the-variants.{Refused, Passed}
 use Rattle.writers.specs.Written.{Writes}
@@ -34,7 +35,7 @@ handed-most s e = go (verdict7 s)
     go (let-through v q p) = known (order e (length (v .names)))
       where
         known : (e < length (v .names)) ⊎ (length (v .names) ≤ e) → handedBack (name s e) .size ≤ 16
-        known (inl l) = rw (q, lt-ltb e (length (v .names)) l) (p .reads .1 .names _ (getD-mem (v .names) e [] l) .most)
+        known (inl l) = rw (q, lt-ltb e (length (v .names)) l) (limits-of s v (p .reads) .names _ (getD-mem (v .names) e [] l) .most)
         known (inr l) = rw (q, le-ltb e (length (v .names)) l) (omega arith)
 
 module _ {s : List ℕ} {e : ℕ} {r : NamePart} (h : Named s e r) where

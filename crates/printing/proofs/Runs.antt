@@ -25,6 +25,7 @@ use Rattle.model.specs.Board.{readSheet, moveOn, startPlaces, splitNames, runNa
 use Rattle.model.specs.Printed.{printedBy, ranWord, placesWord, ranLine, printedRun, printedBoard}
 use Rattle.model.proofs.Laws.{dec}
 use Rattle.model.proofs.Order.{Verdict, turned-down, let-through}
+use Rattle.model.proofs.Texts.{limits-of}
 use Rattle.model.proofs.Verdicts.{verdict12, same-passed}
 use Rattle.model.proofs.Refusing.{events-declared, events-unknown}
 use Rattle.model.proofs.Together.{run-length}
@@ -79,7 +80,7 @@ comes s es = go (verdict12 s)
 
         on : T (declared (length (v .names)) es) ⊎ T (not (declared (length (v .names)) es)) → Comes s es
         on (inl t) =
-            ran v (runFrom (move (system v)) (v .machines) start es) (here ∙ events-declared (move (system v)) (length (v .names)) (v .machines) start es t) e (p .reads .1 .machines-most)
+            ran v (runFrom (move (system v)) (v .machines) start es) (here ∙ events-declared (move (system v)) (length (v .names)) (v .machines) start es t) e (limits-of s v (p .reads) .machines-most)
             (run-length (move (system v)) (v .machines) es start (length-places (v .machines) (v .initial)))
         on (inr t) = stopped _ (here ∙ events-unknown (move (system v)) (length (v .names)) (v .machines) start es t)
 

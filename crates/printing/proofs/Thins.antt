@@ -11,6 +11,7 @@ use Rattle.model.specs.Text.{Input, system}
 use Rattle.model.specs.Services.{asFarAs12, writtenRefusal, Kept, keptOf, thin}
 use Rattle.model.specs.Printed.{printedBy, joined, keptLine, printedThin}
 use Rattle.model.proofs.Order.{Verdict, turned-down, let-through}
+use Rattle.model.proofs.Texts.{limits-of}
 use Rattle.model.proofs.Verdicts.{verdict12, refused-passed, same-refused, same-passed}
 use Rattle.model.proofs.Refusing.{thin-is}
 use Rattle.model.proofs.Kept.{kept-length}
@@ -36,7 +37,7 @@ comes s = go (verdict12 s)
     go : Verdict 12 s (asFarAs12 s) → Comes s
     go (turned-down r e f) = stopped r (ap (λ (c : Checked Input). c >>= λ v. passed (keptOf v)) e)
     go (let-through v e p) =
-        kept (keptOf v) (thin-is s v e) (subst (λ (n : ℕ). n ≤ 16) (sym (kept-length (system v) (v .machines))) (p .reads .1 .machines-most))
+        kept (keptOf v) (thin-is s v e) (subst (λ (n : ℕ). n ≤ 16) (sym (kept-length (system v) (v .machines))) (limits-of s v (p .reads) .machines-most))
 
 print-as : (s : List ℕ) {c : Checked Kept} → thin s ≡ c → printedThin s ≡ printedBy keptLine c
 unfolding printedThin

@@ -3,14 +3,14 @@ use Prim.Native.Nat.{ℕ, zero, suc, _+_}
 use native.Mathlib.Omega.{arith}
 use mathlib.Core.Path.{_≡_, refl, ap, sym, subst, _∙_}
 use mathlib.Core.List.{List, [], _∷_, _++_, map, flatMap}
-use mathlib.Core.Option.{some}
+use mathlib.Core.Option.{Option, some}
 use lib.ListN.{length, take, length-append, length-map}
 use Rattle.model.specs.Refusal.{Refusal, Checked, refused, passed, refusalOf}
 use Rattle.model.specs.TransitionSystem.{Transition}
 use Rattle.model.specs.Machine.{Machine, duplicateState}
 use Rattle.model.specs.Bytes.{bytes, Name}
-use Rattle.model.specs.Form.{states, written}
-use Rattle.model.specs.Text.{Input, valueOf, nameAt, system, read}
+use Rattle.model.specs.Form.{startOf}
+use Rattle.model.specs.Text.{Input, valueOf, lineTwo, nameAt, system, read}
 use Rattle.model.proofs.ListLaws.{map-map}
 use Rattle.model.proofs.Values.{Named, lines, numbered, input, value-of-lines}
 use Rattle.rows.specs.Rows.{row, tabulate, placeRow, orNoState}
@@ -61,32 +61,28 @@ spots-tabled at (e ∷ es) =
 
 -- ---- the tables
 
-module _ (n : ℕ) (es : List Name) (ts : List Named) (ms : List Machine) where
+module _ (s : List ℕ) (n : ℕ) (o : Option ℕ) (es : List Name) (ts : List Named) (ms : List Machine) where
   abbrev value : Input
-  value = input n es (map (numbered es) ts) ms
+  value = input n (startOf o) es (map (numbered es) ts) ms
 
-  names-placed : tabulate (nameAt value) (length es) ≡ spots (namesFrom (length (written (states n)))) es
+  names-placed : tabulate (nameAt s value) (length es) ≡ spots (namesFrom (lineTwo s)) es
   unfolding nameAt namesFrom
   names-placed =
-      tabulate-same (nameAt value) (spot (length (written (states n)) + 7) es)
-      (λ k.
-      let w = spaced (take k es) in
-      omega (arith, length-append (written (states n)) (bytes "(events" ++ (w ++ bytes " ")), length-append w (bytes " ")))
-      (length es)
-      ∙ spots-tabled (length (written (states n)) + 7) es
+      tabulate-same (nameAt s value) (spot (lineTwo s + 7) es) (λ k. omega (arith, length-append (spaced (take k es)) (bytes " "))) (length es)
+      ∙ spots-tabled (lineTwo s + 7) es
 
   duplicate-marked : map (λ (m : Machine). orNoState (duplicateState (system value) m)) ms ≡ map (λ (m : Machine). duplicateMark n (m .places)) ms
   unfolding duplicateState duplicateMark
   duplicate-marked = refl
 
   -- the rows of the lines are the tables
-  tabled-value : tablesOf (valueOf (lines n es ts ms))
-      ≡ joined (counts n (length es) (length ts) (length ms)) (row 64 0 (spots (namesFrom (length (written (states n)))) es)) (row 64 0 (map length es)) (withSteps es noSteps ts) (withMachines n noMachines ms)
+  tabled-value : tablesOf s (valueOf (lines n o es ts ms))
+      ≡ joined (counts n (startOf o) (length es) (length ts) (length ms)) (row 64 0 (spots (namesFrom (lineTwo s)) es)) (row 64 0 (map length es)) (withSteps es noSteps ts) (withMachines n noMachines ms)
   unfolding tablesOf withSteps withMachines row
   tabled-value =
-      ap tablesOf (value-of-lines n es ts ms)
+      ap (tablesOf s) (value-of-lines n o es ts ms)
       ∙ λ i. record {
-        counts = counts n (length es) (length-map ts (numbered es) i) (length ms);
+        counts = counts n (startOf o) (length es) (length-map ts (numbered es) i) (length ms);
         «name_at» = row 64 0 (names-placed i);
         «name_len» = row 64 0 (map length es);
         source = row 1024 0 (map-map (λ (t : Transition). t .source) (numbered es) ts i);
@@ -107,23 +103,25 @@ passed-same : {v w : Input} → passed v ≡ passed w → v ≡ w
 passed-same e = cc
 
 -- the code's answer to a refusal
-pub rows-refused : {q : Refusal} {c : Checked Input} {v : Verdict} {k : Counts} {p : Tables} → c ≡ refused q → verdictRefusal v ≡ some q → k ≡ noCounts → AnswersRows c v k p
+pub rows-refused : {s : List ℕ} {q : Refusal} {c : Checked Input} {v : Verdict} {k : Counts} {p : Tables} → c ≡ refused q → verdictRefusal v ≡ some q → k ≡ noCounts
+    → AnswersRows s c v k p
 rows-refused e v k = record { verdict = rw e v; rows = λ x w. apart e w; none = λ _ _. k }
 
 -- its answer where all lines are read into rows in which nothing was stored
-module _ {c : Checked Input} {n : ℕ} {es : List Name} {count k j : ℕ} {ats lens highs lows : List ℕ} {before steps : TransitionRows} {unread machines : MachineRows} where
-  pub rows-passed : (ts : List Named) (ms : List Machine) → PackedNames es count lens highs lows → ats ≡ row 64 0 (spots (namesFrom (length (written (states n)))) es)
-      → before ≡ noSteps → unread ≡ noMachines → c ≡ passed (valueOf (lines n es ts ms)) → k ≡ length ts → steps ≡ withSteps es before ts → j ≡ length ms
-      → machines ≡ withMachines n unread ms → AnswersRows c Passed (counts n count k j) (joined (counts n count k j) ats lens steps machines)
+module _ {s : List ℕ} {c : Checked Input} {n i : ℕ} {o : Option ℕ} {es : List Name} {count k j : ℕ} {ats lens highs lows : List ℕ} {before steps : TransitionRows}
+    {unread machines : MachineRows} where
+  pub rows-passed : (ts : List Named) (ms : List Machine) → startOf o ≡ i → PackedNames es count lens highs lows → ats ≡ row 64 0 (spots (namesFrom (lineTwo s)) es)
+      → before ≡ noSteps → unread ≡ noMachines → c ≡ passed (valueOf (lines n o es ts ms)) → k ≡ length ts → steps ≡ withSteps es before ts → j ≡ length ms
+      → machines ≡ withMachines n unread ms → AnswersRows s c Passed (counts n i count k j) (joined (counts n i count k j) ats lens steps machines)
   unfolding verdictRefusal
-  rows-passed ts ms r a f g w p q o u =
+  rows-passed ts ms z r a f g w p q x u =
       record {
         verdict = rw w;
-        rows = λ x e. rw (a, r .counted, r .lengths, p, q, f, o, u, g) (sym (tabled-value n es ts ms) ∙ ap tablesOf (passed-same (sym w ∙ e)));
+        rows = λ y e. rw (a, ← z, r .counted, r .lengths, p, q, f, x, u, g) (sym (tabled-value s n o es ts ms) ∙ ap (tablesOf s) (passed-same (sym w ∙ e)));
         none = λ q e. apart e w;
       }
 
 module _ (s : List ℕ) {w : Verdict} {k : Counts} {ats lens sources events targets sizes duplicates places : List ℕ} where
-  pub answering-rows : AnswersRows (read s) w k (tablesIn k ats lens sources events targets sizes duplicates places)
+  pub answering-rows : AnswersRows s (read s) w k (tablesIn k ats lens sources events targets sizes duplicates places)
       → (verdictRefusal w ≡ refusalOf (read s)) × ReadsRows s k ats lens sources events targets sizes duplicates places
   answering-rows a = (a .verdict, record { tables = a .rows; told = λ v e. subst (Told s v) (sym (a .rows v e)) (told s v e); none = a .none })

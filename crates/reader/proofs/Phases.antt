@@ -5,9 +5,10 @@ use mathlib.Core.Path.{_≡_, refl, ap, sym, _∙_, subst}
 use mathlib.Core.Logic.{_⊎_, inl, inr}
 use mathlib.Core.Bool.{Bool, true, false, not, and-false}
 use mathlib.Core.List.{List, [], _∷_, _++_, map, append-assoc, append-nil}
+use mathlib.Core.Option.{Option}
 use lib.Dec.{T, leb, ltb}
 use borrow.Author.Tests.{le-leb, lt-leb}
-use lib.ListN.{length, length-append, length-map}
+use lib.ListN.{length, drop, length-append, length-map}
 use Rattle.model.specs.Lists.{exists, index, count}
 use Rattle.model.specs.Refusal.{refuse, Checked, refused, passed}
 use Rattle.model.specs.declared.Refusal as D
@@ -15,8 +16,8 @@ use Rattle.model.specs.Cases.{tabled}
 use Rattle.model.specs.Machine.{Place, Machine}
 use Rattle.model.specs.Bytes.{Name, sameName}
 use Rattle.model.specs.Reading.{fail, got}
-use Rattle.model.specs.Form.{Line, states, events, step, machine, written, isStepLine, isMachineLine, statesLine, eventsLine, stepLine, machineLine, lineAfter}
-use Rattle.model.specs.Text.{Input, eventNumber, valueOf, distinct, inLimit, isDeclared, ended, read}
+use Rattle.model.specs.Form.{Line, states, events, step, machine, startOf, isStepLine, isMachineLine, statesLine, eventsLine, stepLine, machineLine, lineAfter}
+use Rattle.model.specs.Text.{Input, eventNumber, valueOf, distinct, inLimit, isDeclared, ended, read, lineTwo}
 use Rattle.model.proofs.Laws.{T-false, or-not-l, or-not-r, order}
 use Rattle.model.proofs.ListLaws.{map-append}
 use Rattle.model.proofs.Positions.{index-below}
@@ -24,7 +25,11 @@ use Rattle.model.proofs.Counting.{count-append, count-map-all, count-map-none, 
 use Rattle.model.proofs.Values as Values
 use Rattle.model.proofs.Values.{Named, lines}
 use Rattle.model.proofs.Lines.{line-sound}
+use Rattle.model.proofs.LineEnds.{line-two}
 use Rattle.lines.specs.Lines.{EventRows, allBelow}
+use Rattle.lines.proofs.Found.{GotStates}
+use Rattle.reader.specs.declared.first_lines.States.{States}
+use Rattle.reader.specs.declared.first_lines.States.the-variants as S
 use Rattle.reader.specs.declared.first_lines.Declared.{Declared}
 use Rattle.reader.specs.declared.first_lines.FirstLines.{FirstLines}
 use Rattle.reader.specs.declared.first_lines.FirstLines.the-variants as F
@@ -58,28 +63,39 @@ module _ (s : List ℕ) where
   unfolding lineAfter
   states-fail e h = rest-none (rest-start s h) (omega arith) e
 
-  module _ {n next : ℕ} (g : statesLine s 0 ≡ got (states n) next) where
-    pub states-next : next ≡ length (written (states n))
+  module _ {n k next : ℕ} (g : GotStates (statesLine s 0) n k next) where
+    pub states-next : next ≡ lineTwo s
     unfolding lineAfter
-    states-next = omega (arith, line-sound [] s 0 (states n) next (omega arith) g .moved)
+    states-next =
+        let l = line-sound [] s 0 (states n (g .start)) next (omega arith) (g .read) in
+        omega (arith, l .moved, ap lineTwo (l .bytes), line-two n (g .start) (l .formed .0) (l .formed .1) (drop next s))
 
     -- the text is short enough
     module _ (h : length s ≤ 32768) where
       pub states-none : n < 1 → read s ≡ refused (refuse 2 1 0)
       unfolding lineAfter inLimit
-      states-none k = rest-limit (rest-start s h) g (rw (lt-leb 1 n k))
+      states-none i = rest-limit (rest-start s h) (g .read) (rw (lt-leb 1 n i))
 
       pub states-many : 256 < n → read s ≡ refused (refuse 2 1 0)
       unfolding lineAfter inLimit
-      states-many k = rest-limit (rest-start s h) g (rw (lt-leb n 256 k, and-false))
+      states-many i = rest-limit (rest-start s h) (g .read) (rw (lt-leb n 256 i, and-false))
 
-      pub states-more : 1 ≤ n → n ≤ 256 → Rest s (states n ∷ []) next (read s)
-      unfolding lineAfter inLimit isDeclared
-      states-more k m = rest-more (rest-start s h) g (rw (le-leb 1 n k, le-leb n 256 m)) refl
+      module _ (i : 1 ≤ n) (j : n ≤ 256) where
+        states-within : inLimit [] (states n (g .start)) ≡ true
+        unfolding inLimit
+        states-within = rw (le-leb 1 n i, le-leb n 256 j)
+
+        pub start-undeclared : n ≤ k → read s ≡ refused (refuse 3 1 0)
+        unfolding lineAfter isDeclared
+        start-undeclared u = rest-undeclared (rest-start s h) (g .read) states-within (lt-leb (suc (startOf (g .start))) n (omega (arith, g .initial)))
+
+        pub states-more : k < n → Rest s (states n (g .start) ∷ []) next (read s)
+        unfolding lineAfter isDeclared
+        states-more u = rest-more (rest-start s h) (g .read) states-within (le-leb (suc (startOf (g .start))) n (omega (arith, g .initial)))
 
 -- ---- the events
 
-module _ {s : List ℕ} {n at : ℕ} {c : Checked Input} (r : Rest s (states n ∷ []) at c) where
+module _ {s : List ℕ} {n at : ℕ} {o : Option ℕ} {c : Checked Input} (r : Rest s (states n o ∷ []) at c) where
   pub events-fail : eventsLine s at ≡ fail → c ≡ refused (refuse 1 2 0)
   unfolding lineAfter
   events-fail e = rest-none r (omega arith) e
@@ -94,31 +110,40 @@ module _ {s : List ℕ} {n at : ℕ} {c : Checked Input} (r : Rest s (states n �
       unfolding lineAfter inLimit isDeclared
       events-twice d = rest-undeclared r g (le-leb (length es) 64 k) d
 
-      pub events-more : distinct es ≡ true → Rest s (begun n es []) next c
+      pub events-more : distinct es ≡ true → Rest s (begun n o es []) next c
       unfolding lineAfter inLimit isDeclared
       events-more d = rest-more r g (le-leb (length es) 64 k) d
 
 -- ---- the first two lines, from the code's answers
 
-pub states-found : {s : List ℕ} {n next : ℕ} {r : Section} → r ≡ Read n next → StatesRead s r → StatesFound s n next
+pub states-found : {s : List ℕ} {n k next : ℕ} {r : States} → r ≡ S.Read n k next → StatesRead s r → StatesFound s n k next
 unfolding StatesRead
 states-found q h = rw q at h
 
-pub events-found : {s : List ℕ} {at n k next : ℕ} {c : Checked Input} {after : EventRows} {r : Section} → r ≡ Read k next → EventsRead s at n c r after
-    → EventsFound s at n c k next after
+pub states-refused : (s : List ℕ) {why : D.Refusal} {r : States} → r ≡ S.Refused why → StatesRead s r → read s ≡ refused (tabled why)
+unfolding StatesRead
+states-refused s q h = rw q at h
+
+pub events-found : {s : List ℕ} {at n k next : ℕ} {o : Option ℕ} {c : Checked Input} {after : EventRows} {r : Section} → r ≡ Read k next
+    → EventsRead s at n o c r after → EventsFound s at n o c k next after
 unfolding EventsRead
 events-found q h = rw q at h
 
-pub events-refused : (s : List ℕ) (at n : ℕ) (after : EventRows) {c : Checked Input} {why : D.Refusal} {r : Section} → r ≡ Refused why → EventsRead s at n c r after
-    → c ≡ refused (tabled why)
+pub events-refused : (s : List ℕ) (at n : ℕ) (o : Option ℕ) (after : EventRows) {c : Checked Input} {why : D.Refusal} {r : Section} → r ≡ Refused why
+    → EventsRead s at n o c r after → c ≡ refused (tabled why)
 unfolding EventsRead
-events-refused s at n after q h = rw q at h
+events-refused s at n o after q h = rw q at h
 
 -- both are read; the second begins where the first ends
-pub first-found : {s : List ℕ} {at n k next : ℕ} {after : EventRows} → StatesFound s n at → EventsFound s at n (read s) k next after
-    → FirstFound s (record { states = n; events = k; next = next }) after
-first-found {s} {n = n} {k} {next} {after} f e =
-    record { few = f .few; found = subst (λ (x : ℕ). EventsFound s x n (read s) k next after) (states-next s (f .line)) e }
+pub first-found : {s : List ℕ} {at n i k next : ℕ} {after : EventRows} (f : StatesFound s n i at) → EventsFound s at n (f .start) (read s) k next after
+    → FirstFound s (record { states = n; initial = i; events = k; next = next }) after
+first-found {s} {n = n} {k = k} {next} {after} f e =
+    record {
+      few = f .few;
+      start = f .start;
+      initial = f .initial;
+      found = subst (λ (x : ℕ). EventsFound s x n (f .start) (read s) k next after) (f .ends) e;
+    }
 
 pub first-read : {s : List ℕ} {d : Declared} {after : EventRows} {r : FirstLines} → r ≡ F.Read d → FirstRead s r after → FirstFound s d after
 unfolding FirstRead
@@ -126,12 +151,12 @@ first-read q h = rw q at h
 
 -- ---- the lines read so far, counted
 
-module _ (n : ℕ) (es : List Name) (ts : List Named) (ms : List Machine) where
-  length-lines : length (lines n es ts ms) ≡ 2 + (length ts + length ms)
+module _ (n : ℕ) (o : Option ℕ) (es : List Name) (ts : List Named) (ms : List Machine) where
+  length-lines : length (lines n o es ts ms) ≡ 2 + (length ts + length ms)
   length-lines =
       omega (arith, length-append (map Values.stepLine ts) (map Values.machineLine ms), length-map ts Values.stepLine, length-map ms Values.machineLine)
 
-  steps-counted : count isStepLine (lines n es ts ms) ≡ length ts
+  steps-counted : count isStepLine (lines n o es ts ms) ≡ length ts
   unfolding count isStepLine
   steps-counted =
       omega (
@@ -141,7 +166,7 @@ module _ (n : ℕ) (es : List Name) (ts : List Named) (ms : List Machine) where
         count-map-none isStepLine Values.machineLine (λ m. refl) ms,
       )
 
-  machines-counted : count isMachineLine (lines n es ts ms) ≡ length ms
+  machines-counted : count isMachineLine (lines n o es ts ms) ≡ length ms
   unfolding count isMachineLine
   machines-counted =
       omega (
@@ -151,49 +176,49 @@ module _ (n : ℕ) (es : List Name) (ts : List Named) (ms : List Machine) where
         count-map-all isMachineLine Values.machineLine (λ m. refl) ms,
       )
 
-  machine-there : exists isMachineLine (lines n es ts ms) ≡ ltb 0 (length ms)
-  machine-there = exists-count isMachineLine (lines n es ts ms) ∙ ap (ltb 0) machines-counted
+  machine-there : exists isMachineLine (lines n o es ts ms) ≡ ltb 0 (length ms)
+  machine-there = exists-count isMachineLine (lines n o es ts ms) ∙ ap (ltb 0) machines-counted
 
-  one-machine : (m : Machine) → lines n es ts ms ++ (Values.machineLine m ∷ []) ≡ lines n es ts (ms ++ (m ∷ []))
+  one-machine : (m : Machine) → lines n o es ts ms ++ (Values.machineLine m ∷ []) ≡ lines n o es ts (ms ++ (m ∷ []))
   one-machine m = simp (append-assoc, map-append)
 
   -- the next line is a machine's
-  next-machine : (s : List ℕ) (at : ℕ) → (length ms ≡ 0 → stepLine s at ≡ fail) → lineAfter (lines n es ts ms) s at ≡ machineLine s at
+  next-machine : (s : List ℕ) (at : ℕ) → (length ms ≡ 0 → stepLine s at ≡ fail) → lineAfter (lines n o es ts ms) s at ≡ machineLine s at
   unfolding lineAfter
   next-machine s at f = go (order 0 (length ms))
     where
-      go : (0 < length ms) ⊎ (length ms ≤ 0) → lineAfter (lines n es ts ms) s at ≡ machineLine s at
+      go : (0 < length ms) ⊎ (length ms ≤ 0) → lineAfter (lines n o es ts ms) s at ≡ machineLine s at
       go (inl h) = rw (machine-there, le-leb 1 (length ms) h)
       go (inr h) = rw (machine-there, lt-leb 1 (length ms) (omega arith), f (omega arith))
 
-module _ (n : ℕ) (es : List Name) (ts : List Named) where
-  one-step : (t : Named) → begun n es ts ++ (Values.stepLine t ∷ []) ≡ begun n es (ts ++ (t ∷ []))
+module _ (n : ℕ) (o : Option ℕ) (es : List Name) (ts : List Named) where
+  one-step : (t : Named) → begun n o es ts ++ (Values.stepLine t ∷ []) ≡ begun n o es (ts ++ (t ∷ []))
   one-step t = simp (append-nil, map-append)
 
-  next-step : {l : Line} {next : ℕ} (s : List ℕ) (at : ℕ) → stepLine s at ≡ got l next → lineAfter (begun n es ts) s at ≡ got l next
+  next-step : {l : Line} {next : ℕ} (s : List ℕ) (at : ℕ) → stepLine s at ≡ got l next → lineAfter (begun n o es ts) s at ≡ got l next
   unfolding lineAfter
-  next-step s at g = rw (machine-there n es ts [], g)
+  next-step s at g = rw (machine-there n o es ts [], g)
 
 -- ---- a step
 
-module _ {s : List ℕ} {n : ℕ} {es : List Name} {c : Checked Input} {at a b next k : ℕ} {e : Name} (ts : List Named) (r : Rest s (begun n es ts) at c)
+module _ {s : List ℕ} {n : ℕ} {o : Option ℕ} {es : List Name} {c : Checked Input} {at a b next k : ℕ} {e : Name} (ts : List Named) (r : Rest s (begun n o es ts) at c)
     (g : stepLine s at ≡ got (step a e b) next) (counted : k ≡ length ts) where
-  step-number : suc (length (begun n es ts)) ≡ 3 + k
-  step-number = omega (arith, length-lines n es ts [])
+  step-number : suc (length (begun n o es ts)) ≡ 3 + k
+  step-number = omega (arith, length-lines n o es ts [])
 
   pub step-many : 1024 ≤ k → c ≡ refused (refuse 2 (3 + k) 0)
   unfolding inLimit
   step-many h =
-      rw step-number at (rest-limit r (next-step n es ts s at g)
-      (lt-leb (suc (count isStepLine (begun n es ts))) 1024 (omega (arith, steps-counted n es ts []))))
+      rw step-number at (rest-limit r (next-step n o es ts s at g)
+      (lt-leb (suc (count isStepLine (begun n o es ts))) 1024 (omega (arith, steps-counted n o es ts []))))
 
   module _ (room : k < 1024) where
-    step-within : inLimit (begun n es ts) (step a e b) ≡ true
+    step-within : inLimit (begun n o es ts) (step a e b) ≡ true
     unfolding inLimit
-    step-within = le-leb (suc (count isStepLine (begun n es ts))) 1024 (omega (arith, steps-counted n es ts []))
+    step-within = le-leb (suc (count isStepLine (begun n o es ts))) 1024 (omega (arith, steps-counted n o es ts []))
 
-    step-undeclared : isDeclared (begun n es ts) (step a e b) ≡ false → c ≡ refused (refuse 3 (3 + k) 0)
-    step-undeclared d = rw step-number at (rest-undeclared r (next-step n es ts s at g) step-within d)
+    step-undeclared : isDeclared (begun n o es ts) (step a e b) ≡ false → c ≡ refused (refuse 3 (3 + k) 0)
+    step-undeclared d = rw step-number at (rest-undeclared r (next-step n o es ts s at g) step-within d)
 
     pub step-source : n ≤ a → c ≡ refused (refuse 3 (3 + k) 0)
     unfolding isDeclared
@@ -207,61 +232,61 @@ module _ {s : List ℕ} {n : ℕ} {es : List Name} {c : Checked Input} {at a b n
     unfolding isDeclared eventNumber
     step-event h = step-undeclared (rw (exists-index (sameName e) es, lt-leb (suc (index (sameName e) es)) (length es) (omega arith), and-false))
 
-    pub step-more : a < n → b < n → eventNumber es e < length es → Rest s (begun n es (ts ++ (record { source = a; event = e; target = b } ∷ []))) next c
+    pub step-more : a < n → b < n → eventNumber es e < length es → Rest s (begun n o es (ts ++ (record { source = a; event = e; target = b } ∷ []))) next c
     unfolding isDeclared eventNumber
     step-more i j h =
-        rw (one-step n es ts (record { source = a; event = e; target = b })) at (rest-more r (next-step n es ts s at g) step-within
+        rw (one-step n o es ts (record { source = a; event = e; target = b })) at (rest-more r (next-step n o es ts s at g) step-within
         (rw (exists-index (sameName e) es, le-leb (suc (index (sameName e) es)) (length es) h, le-leb (suc a) n i, le-leb (suc b) n j)))
 
 -- ---- a machine, and the end
 
-module _ {s : List ℕ} {n : ℕ} {es : List Name} {c : Checked Input} {at k line : ℕ} (ts : List Named) (ms : List Machine) (r : Rest s (lines n es ts ms) at c)
+module _ {s : List ℕ} {n : ℕ} {o : Option ℕ} {es : List Name} {c : Checked Input} {at k line : ℕ} (ts : List Named) (ms : List Machine) (r : Rest s (lines n o es ts ms) at c)
     (counted : k ≡ length ms) (numbered : line ≡ 3 + length ts) where
-  machine-number : suc (length (lines n es ts ms)) ≡ line + k
-  machine-number = omega (arith, length-lines n es ts ms)
+  machine-number : suc (length (lines n o es ts ms)) ≡ line + k
+  machine-number = omega (arith, length-lines n o es ts ms)
 
-  two-lines : leb 2 (length (lines n es ts ms)) ≡ true
-  two-lines = le-leb 2 (length (lines n es ts ms)) (omega (arith, length-lines n es ts ms))
+  two-lines : leb 2 (length (lines n o es ts ms)) ≡ true
+  two-lines = le-leb 2 (length (lines n o es ts ms)) (omega (arith, length-lines n o es ts ms))
 
   pub machines-none : length s ≤ at → k ≡ 0 → c ≡ refused (refuse 2 line 0)
   unfolding ended
   machines-none h z =
-      let q : suc (length (lines n es ts ms)) ≡ line = omega (arith, machine-number) in
-      rw (two-lines, machine-there n es ts ms, lt-leb 1 (length ms) (omega arith), q) at (rest-end r h)
+      let q : suc (length (lines n o es ts ms)) ≡ line = omega (arith, machine-number) in
+      rw (two-lines, machine-there n o es ts ms, lt-leb 1 (length ms) (omega arith), q) at (rest-end r h)
 
-  pub machines-end : length s ≤ at → 0 < k → c ≡ passed (valueOf (lines n es ts ms))
+  pub machines-end : length s ≤ at → 0 < k → c ≡ passed (valueOf (lines n o es ts ms))
   unfolding ended
-  machines-end h z = rw (two-lines, machine-there n es ts ms, le-leb 1 (length ms) (omega arith)) at (rest-end r h)
+  machines-end h z = rw (two-lines, machine-there n o es ts ms, le-leb 1 (length ms) (omega arith)) at (rest-end r h)
 
   -- before the first machine no step line stands next
   module _ (last : length ms ≡ 0 → stepLine s at ≡ fail) where
     pub machine-fail : at < length s → machineLine s at ≡ fail → c ≡ refused (refuse 1 (line + k) 0)
-    machine-fail h e = rw machine-number at (rest-fail r h (next-machine n es ts ms s at last ∙ e))
+    machine-fail h e = rw machine-number at (rest-fail r h (next-machine n o es ts ms s at last ∙ e))
 
     module _ {ps : List Place} {next : ℕ} (g : machineLine s at ≡ got (machine ps) next) where
-      machine-next : lineAfter (lines n es ts ms) s at ≡ got (machine ps) next
-      machine-next = next-machine n es ts ms s at last ∙ g
+      machine-next : lineAfter (lines n o es ts ms) s at ≡ got (machine ps) next
+      machine-next = next-machine n o es ts ms s at last ∙ g
 
-      machine-over : inLimit (lines n es ts ms) (machine ps) ≡ false → c ≡ refused (refuse 2 (line + k) 0)
+      machine-over : inLimit (lines n o es ts ms) (machine ps) ≡ false → c ≡ refused (refuse 2 (line + k) 0)
       machine-over d = rw machine-number at (rest-limit r machine-next d)
 
       pub machine-many : 16 ≤ k → c ≡ refused (refuse 2 (line + k) 0)
       unfolding inLimit
-      machine-many h = machine-over (rw (machines-counted n es ts ms, lt-leb (suc (length ms)) 16 (omega arith)))
+      machine-many h = machine-over (rw (machines-counted n o es ts ms, lt-leb (suc (length ms)) 16 (omega arith)))
 
       pub machine-places : 64 < length ps → c ≡ refused (refuse 2 (line + k) 0)
       unfolding inLimit
       machine-places h = machine-over (rw (lt-leb (length ps) 64 h, and-false))
 
       module _ (room : k < 16) (small : length ps ≤ 64) where
-        machine-within : inLimit (lines n es ts ms) (machine ps) ≡ true
+        machine-within : inLimit (lines n o es ts ms) (machine ps) ≡ true
         unfolding inLimit
-        machine-within = rw (machines-counted n es ts ms, le-leb (suc (length ms)) 16 (omega arith), le-leb (length ps) 64 small)
+        machine-within = rw (machines-counted n o es ts ms, le-leb (suc (length ms)) 16 (omega arith), le-leb (length ps) 64 small)
 
         pub machine-undeclared : allBelow n ps ≡ false → c ≡ refused (refuse 3 (line + k) 0)
         unfolding isDeclared allBelow
         machine-undeclared d = rw machine-number at (rest-undeclared r machine-next machine-within d)
 
-        pub machine-more : allBelow n ps ≡ true → Rest s (lines n es ts (ms ++ (record { places = ps } ∷ []))) next c
+        pub machine-more : allBelow n ps ≡ true → Rest s (lines n o es ts (ms ++ (record { places = ps } ∷ []))) next c
         unfolding isDeclared allBelow
-        machine-more d = rw (one-machine n es ts ms (record { places = ps })) at (rest-more r machine-next machine-within d)
+        machine-more d = rw (one-machine n o es ts ms (record { places = ps })) at (rest-more r machine-next machine-within d)

@@ -24,12 +24,12 @@ pub record FreshRows (ats lens sources events targets sizes duplicates places : 
 
 -- the counts and the rows of a text: passed, its tables, which tell its value; refused, counts of 0, and rows of which nothing is said
 pub record ReadsRows (s : List ℕ) (c : Counts) (ats lens sources events targets sizes duplicates places : List ℕ) : Type 0 where
-  pub tables : (v : Input) → read s ≡ passed v → tablesIn c ats lens sources events targets sizes duplicates places ≡ tablesOf v
+  pub tables : (v : Input) → read s ≡ passed v → tablesIn c ats lens sources events targets sizes duplicates places ≡ tablesOf s v
   pub told : (v : Input) → read s ≡ passed v → Told s v (tablesIn c ats lens sources events targets sizes duplicates places)
   pub none : (q : Refusal) → read s ≡ refused q → c ≡ noCounts
 
 -- the same of lines that come to c, with their verdict
-pub record AnswersRows (c : Checked Input) (v : Verdict) (k : Counts) (p : Tables) : Type 0 where
+pub record AnswersRows (s : List ℕ) (c : Checked Input) (v : Verdict) (k : Counts) (p : Tables) : Type 0 where
   pub verdict : verdictRefusal v ≡ refusalOf c
-  pub rows : (x : Input) → c ≡ passed x → p ≡ tablesOf x
+  pub rows : (x : Input) → c ≡ passed x → p ≡ tablesOf s x
   pub none : (q : Refusal) → c ≡ refused q → k ≡ noCounts

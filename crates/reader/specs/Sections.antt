@@ -3,6 +3,7 @@ use Prim.Native.Nat.{ℕ, _+_, _<_, _≤_}
 use mathlib.Core.Path.{_≡_}
 use mathlib.Core.Bool.{true}
 use mathlib.Core.List.{List, [], _∷_, map, flatMap}
+use mathlib.Core.Option.{Option}
 use lib.ListN.{length, replicate}
 use lib.Seq.{sets}
 use Rattle.model.specs.Refusal.{Checked, refused, passed}
@@ -11,8 +12,8 @@ use Rattle.model.specs.Cases.{tabled}
 use Rattle.model.specs.Machine.{Machine}
 use Rattle.model.specs.Bytes.{Name}
 use Rattle.model.specs.Reading.{fail, got}
-use Rattle.model.specs.Form.{Line, states, step, written, statesLine, stepLine}
-use Rattle.model.specs.Text.{Input, linesFrom, eventNumber, valueOf, distinct, read}
+use Rattle.model.specs.Form.{Line, states, step, startOf, stepLine}
+use Rattle.model.specs.Text.{Input, linesFrom, eventNumber, valueOf, distinct, read, lineTwo}
 use Rattle.model.proofs.Values.{Named, lines}
 use Rattle.rows.specs.Rows.{row, placeRow}
 use Rattle.lines.specs.Lines.{spots, duplicateMark, EventRows, eventRows, namesFrom}
@@ -20,6 +21,8 @@ use Rattle.names.specs.Held.{PackedNames}
 use Rattle.rows.specs.declared.Counts.{Counts}
 use Rattle.rows.specs.declared.Tables.{Tables}
 use Rattle.rows.specs.declared.Counted.{Counted}
+use Rattle.reader.specs.declared.first_lines.States.{States}
+use Rattle.reader.specs.declared.first_lines.States.the-variants as S
 use Rattle.reader.specs.declared.first_lines.Declared.{Declared}
 use Rattle.reader.specs.declared.first_lines.FirstLines.{FirstLines}
 use Rattle.reader.specs.declared.first_lines.FirstLines.the-variants as F
@@ -48,8 +51,8 @@ pub record Rest (s : List ℕ) (ls : List Line) (at : ℕ) (c : Checked Input) :
   pub same : linesFrom fuel s ls at ≡ c
 
 -- the states, the events and these steps
-abbrev pub begun : ℕ → List Name → List Named → List Line
-begun n es ts = lines n es ts []
+abbrev pub begun : ℕ → Option ℕ → List Name → List Named → List Line
+begun n o es ts = lines n o es ts []
 
 pub record TransitionRows : Type 0 where
   pub source : List ℕ
@@ -79,7 +82,7 @@ pub record StepFound (s : List ℕ) (at n count : ℕ) (lens highs lows : List �
 
 -- one that is refused
 pub record StepRefused (s : List ℕ) (at n count : ℕ) (lens highs lows : List ℕ) (k : ℕ) (why : D.Refusal) : Type 0 where
-  pub stops : (es : List Name) (ts : List Named) (c : Checked Input) → DistinctRows es count lens highs lows → k ≡ length ts → Rest s (begun n es ts) at c
+  pub stops : (o : Option ℕ) (es : List Name) (ts : List Named) (c : Checked Input) → DistinctRows es count lens highs lows → k ≡ length ts → Rest s (begun n o es ts) at c
       → c ≡ refused (tabled why)
 
 unfoldable pub StepRead : List ℕ → ℕ → ℕ → ℕ → List ℕ → List ℕ → List ℕ → ℕ → StepAt → Type 0
@@ -87,39 +90,43 @@ StepRead s at n count lens highs lows k A.Missing = stepLine s at ≡ fail
 StepRead s at n count lens highs lows k (A.Refused why) = StepRefused s at n count lens highs lows k why
 StepRead s at n count lens highs lows k (A.Found a e b next) = StepFound s at n count lens highs lows k a e b next
 
--- the states line is read, within the limits
-pub record StatesFound (s : List ℕ) (n next : ℕ) : Type 0 where
+-- the states line is read, within the limits, and its start is a state
+pub record StatesFound (s : List ℕ) (n k next : ℕ) : Type 0 where
   pub few : n ≤ 256
-  pub line : statesLine s 0 ≡ got (states n) next
-  pub rest : Rest s (states n ∷ []) next (read s)
+  pub start : Option ℕ
+  pub initial : startOf start ≡ k
+  pub ends : next ≡ lineTwo s
+  pub rest : Rest s (states n start ∷ []) next (read s)
 
-unfoldable pub StatesRead : List ℕ → Section → Type 0
-StatesRead s (Refused why) = read s ≡ refused (tabled why)
-StatesRead s (Read n next) = StatesFound s n next
+unfoldable pub StatesRead : List ℕ → States → Type 0
+StatesRead s (S.Refused why) = read s ≡ refused (tabled why)
+StatesRead s (S.Read n k next) = StatesFound s n k next
 
 -- the rows before an events line is read
 abbrev pub noNames : EventRows
 noNames = eventRows (replicate 64 0) (replicate 64 0) (replicate 64 0) (replicate 64 0)
 
 -- the events line is read, its names into rows
-pub record EventsFound (s : List ℕ) (at n : ℕ) (c : Checked Input) (k next : ℕ) (after : EventRows) : Type 0 where
+pub record EventsFound (s : List ℕ) (at n : ℕ) (o : Option ℕ) (c : Checked Input) (k next : ℕ) (after : EventRows) : Type 0 where
   pub names : List Name
   pub held : DistinctRows names k (after .lengths) (after .highs) (after .lows)
   pub placed : after .placed ≡ row 64 0 (spots (namesFrom at) names)
-  pub rest : Rest s (begun n names []) next c
+  pub rest : Rest s (begun n o names []) next c
 
-unfoldable pub EventsRead : List ℕ → ℕ → ℕ → Checked Input → Section → EventRows → Type 0
-EventsRead s at n c (Refused why) after = c ≡ refused (tabled why)
-EventsRead s at n c (Read k next) after = EventsFound s at n c k next after
+unfoldable pub EventsRead : List ℕ → ℕ → ℕ → Option ℕ → Checked Input → Section → EventRows → Type 0
+EventsRead s at n o c (Refused why) after = c ≡ refused (tabled why)
+EventsRead s at n o c (Read k next) after = EventsFound s at n o c k next after
 
 -- an events line at a position, after n states
 unfoldable pub ReadsEvents : List ℕ → ℕ → Section → EventRows → Type 0
-ReadsEvents s at r after = (n : ℕ) (c : Checked Input) → Rest s (states n ∷ []) at c → EventsRead s at n c r after
+ReadsEvents s at r after = (n : ℕ) (o : Option ℕ) (c : Checked Input) → Rest s (states n o ∷ []) at c → EventsRead s at n o c r after
 
 -- the first two lines are read
 pub record FirstFound (s : List ℕ) (d : Declared) (after : EventRows) : Type 0 where
   pub few : d .states ≤ 256
-  pub found : EventsFound s (length (written (states (d .states)))) (d .states) (read s) (d .events) (d .next) after
+  pub start : Option ℕ
+  pub initial : startOf start ≡ d .initial
+  pub found : EventsFound s (lineTwo s) (d .states) start (read s) (d .events) (d .next) after
 
 unfoldable pub FirstRead : List ℕ → FirstLines → EventRows → Type 0
 FirstRead s (F.Refused why) after = read s ≡ refused (tabled why)
@@ -131,21 +138,21 @@ countOf (Refused why) = 0
 countOf (Read k next) = k
 
 -- step lines are read into rows, and no step line stands next
-pub record StepsFound (s : List ℕ) (n : ℕ) (es : List Name) (c : Checked Input) (k next : ℕ) (before after : TransitionRows) : Type 0 where
+pub record StepsFound (s : List ℕ) (n : ℕ) (o : Option ℕ) (es : List Name) (c : Checked Input) (k next : ℕ) (before after : TransitionRows) : Type 0 where
   pub steps : List Named
-  pub rest : Rest s (begun n es steps) next c
+  pub rest : Rest s (begun n o es steps) next c
   pub last : stepLine s next ≡ fail
   pub counted : k ≡ length steps
   pub rows : after ≡ withSteps es before steps
 
-unfoldable pub StepsRead : List ℕ → ℕ → List Name → Checked Input → Section → TransitionRows → TransitionRows → Type 0
-StepsRead s n es c (Refused why) before after = c ≡ refused (tabled why)
-StepsRead s n es c (Read k next) before after = StepsFound s n es c k next before after
+unfoldable pub StepsRead : List ℕ → ℕ → Option ℕ → List Name → Checked Input → Section → TransitionRows → TransitionRows → Type 0
+StepsRead s n o es c (Refused why) before after = c ≡ refused (tabled why)
+StepsRead s n o es c (Read k next) before after = StepsFound s n o es c k next before after
 
 -- step lines at a position, after n states and the names in the rows
 unfoldable pub ReadsSteps : List ℕ → ℕ → ℕ → ℕ → List ℕ → List ℕ → List ℕ → Section → TransitionRows → TransitionRows → Type 0
 ReadsSteps s at n count lens highs lows r before after =
-    (es : List Name) (c : Checked Input) → DistinctRows es count lens highs lows → Rest s (begun n es []) at c → StepsRead s n es c r before after
+    (o : Option ℕ) (es : List Name) (c : Checked Input) → DistinctRows es count lens highs lows → Rest s (begun n o es []) at c → StepsRead s n o es c r before after
 
 pub record MachineRows : Type 0 where
   pub sizes : List ℕ
@@ -164,21 +171,21 @@ withMachines n r ms =
     }
 
 -- machine lines are read into rows, to the end of the text
-pub record MachinesFound (n : ℕ) (es : List Name) (ts : List Named) (c : Checked Input) (k : ℕ) (before after : MachineRows) : Type 0 where
+pub record MachinesFound (n : ℕ) (o : Option ℕ) (es : List Name) (ts : List Named) (c : Checked Input) (k : ℕ) (before after : MachineRows) : Type 0 where
   pub machines : List Machine
-  pub whole : c ≡ passed (valueOf (lines n es ts machines))
+  pub whole : c ≡ passed (valueOf (lines n o es ts machines))
   pub counted : k ≡ length machines
   pub rows : after ≡ withMachines n before machines
 
-unfoldable pub MachinesRead : ℕ → List Name → List Named → Checked Input → Section → MachineRows → MachineRows → Type 0
-MachinesRead n es ts c (Refused why) before after = c ≡ refused (tabled why)
-MachinesRead n es ts c (Read k next) before after = MachinesFound n es ts c k before after
+unfoldable pub MachinesRead : ℕ → Option ℕ → List Name → List Named → Checked Input → Section → MachineRows → MachineRows → Type 0
+MachinesRead n o es ts c (Refused why) before after = c ≡ refused (tabled why)
+MachinesRead n o es ts c (Read k next) before after = MachinesFound n o es ts c k before after
 
 -- machine lines at a position, after n states, events and steps
 unfoldable pub ReadsMachines : List ℕ → ℕ → ℕ → ℕ → Section → MachineRows → MachineRows → Type 0
 ReadsMachines s at n line r before after =
-    (es : List Name) (ts : List Named) (c : Checked Input) → line ≡ 3 + length ts → stepLine s at ≡ fail → Rest s (begun n es ts) at c
-    → MachinesRead n es ts c r before after
+    (o : Option ℕ) (es : List Name) (ts : List Named) (c : Checked Input) → line ≡ 3 + length ts → stepLine s at ≡ fail → Rest s (begun n o es ts) at c
+    → MachinesRead n o es ts c r before after
 
 -- the rows before a step line is read
 abbrev pub noSteps : TransitionRows
@@ -194,12 +201,12 @@ joined c ats lens steps machines =
     tablesIn c ats lens (steps .source) (steps .event) (steps .target) (machines .sizes) (machines .duplicate) (machines .places)
 
 -- the counts that are answered
-abbrev pub counts : ℕ → ℕ → ℕ → ℕ → Counts
-counts n events transitions machines = record { states = n; initial = 0; events = events; transitions = transitions; machines = machines }
+abbrev pub counts : ℕ → ℕ → ℕ → ℕ → ℕ → Counts
+counts n initial events transitions machines = record { states = n; initial = initial; events = events; transitions = transitions; machines = machines }
 
 -- the answer to a text whose first two lines are read, with the row of the names' positions
 unfoldable pub ReadsLines : List ℕ → Declared → List ℕ → List ℕ → List ℕ → Counted → TransitionRows → MachineRows → Type 0
 ReadsLines s d lens highs lows r steps machines =
-    (es : List Name) (c : Checked Input) (ats : List ℕ) → DistinctRows es (d .events) lens highs lows
-    → ats ≡ row 64 0 (spots (namesFrom (length (written (states (d .states))))) es) → Rest s (begun (d .states) es []) (d .next) c
-    → AnswersRows c (r .verdict) (r .counts) (joined (r .counts) ats lens steps machines)
+    (o : Option ℕ) (es : List Name) (c : Checked Input) (ats : List ℕ) → startOf o ≡ d .initial → DistinctRows es (d .events) lens highs lows
+    → ats ≡ row 64 0 (spots (namesFrom (lineTwo s)) es) → Rest s (begun (d .states) o es []) (d .next) c
+    → AnswersRows s c (r .verdict) (r .counts) (joined (r .counts) ats lens steps machines)

@@ -1,10 +1,10 @@
-// The first two lines of a text: how many states, and the names of the events.
+// The first two lines of a text: the states, and the names of the events.
 ghost use mathlib.Core.Path.{_≡_};
 ghost use Prim.Native.Nat.{_<_};
 ghost use Rattle.lines.specs.Lines.{eventRows};
 ghost use Rattle.reader.specs.Sections.{StatesRead, noNames, ReadsEvents, FirstRead};
 use crate::Section;
-use lexer::Word;
+use lines::StatesLine;
 use lines::read_events;
 use lines::read_states;
 use model::MAX_EVENTS;
@@ -13,23 +13,40 @@ use model::MAX_TEXT;
 use model::Refusal;
 use names::distinct_names;
 
-// How many states a text has, if it and they are within the limits, and the position after their line.
-fn declared_states(s: &[u8]) -> Section
+// How many states, which of them is the initial one, and the position after their line; or the line's refusal.
+enum States {
+    Refused(Refusal),
+    Read {
+        count: usize,
+        initial: usize,
+        next: usize,
+    },
+}
+
+// The states of a text, if it and they are within the limits.
+fn declared_states(s: &[u8]) -> States
     ensures { λ r. ⌜ StatesRead (now (s .entry)) r ⌝ }
 {
     if MAX_TEXT < s.len() {
-        return Section::Refused(Refusal::LimitExceeded { line: 0 }); // 2 oversize
+        return States::Refused(Refusal::LimitExceeded { line: 0 }); // 2 oversize
     }
-    let Word::Found { value: n, next } = read_states(s, 0) else {
-        return Section::Refused(Refusal::Malformed { line: 1 }); // 1 misformed
+    let StatesLine::Found { count, start, next } = read_states(s, 0) else {
+        return States::Refused(Refusal::Malformed { line: 1 }); // 1 misformed
     };
-    if n < 1 {
-        return Section::Refused(Refusal::LimitExceeded { line: 1 }); // 2 oversize
+    if count < 1 {
+        return States::Refused(Refusal::LimitExceeded { line: 1 }); // 2 oversize
     }
-    if MAX_STATES < n {
-        return Section::Refused(Refusal::LimitExceeded { line: 1 }); // 2 oversize
+    if MAX_STATES < count {
+        return States::Refused(Refusal::LimitExceeded { line: 1 }); // 2 oversize
     }
-    Section::Read { count: n, next }
+    if count <= start {
+        return States::Refused(Refusal::Undeclared { line: 1 }); // 3 stranger
+    }
+    States::Read {
+        count,
+        initial: start,
+        next,
+    }
 }
 
 // The names of the events line at a position, into rows of 0.
@@ -62,9 +79,10 @@ fn declared_events(
     }
 }
 
-// What the first two lines declare: how many states and events, and the position after them.
+// What the first two lines declare: how many states, the initial one, how many events, and the position after them.
 pub struct Declared {
     pub states: usize,
+    pub initial: usize,
     pub events: usize,
     pub next: usize,
 }
@@ -86,9 +104,10 @@ pub fn read_first_lines(
     ensures { λ r. ⌜ FirstRead (now (s .entry)) r (eventRows (now (spot .exit)) (now («len» .exit)) (now («high» .exit)) (now («low» .exit))) ⌝ }
 {
     match declared_states(s) {
-        Section::Refused(why) => FirstLines::Refused(why),
-        Section::Read {
+        States::Refused(why) => FirstLines::Refused(why),
+        States::Read {
             count: states,
+            initial,
             next: at,
         } => {
             match declared_events(s, at, spot, len, high, low) {
@@ -98,6 +117,7 @@ pub fn read_first_lines(
                     next,
                 } => FirstLines::Read(Declared {
                     states,
+                    initial,
                     events,
                     next,
                 }),

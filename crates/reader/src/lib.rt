@@ -49,13 +49,13 @@ fn no_counts(why: Refusal) -> Counted
 }
 
 fn all_counts(d: Declared, transitions: usize, machines: usize) -> Counted
-    ensures { λ r. ⌜ r ≡ record { verdict = Passed; counts = counts (d .states) (d .events) transitions machines } ⌝ }
+    ensures { λ r. ⌜ r ≡ record { verdict = Passed; counts = counts (d .states) (d .initial) (d .events) transitions machines } ⌝ }
 {
     Counted {
         verdict: Verdict::Passed,
         counts: Counts {
             states: d.states,
-            initial: 0,
+            initial: d.initial,
             events: d.events,
             transitions,
             machines,

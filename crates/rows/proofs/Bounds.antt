@@ -7,8 +7,10 @@ use lib.ListN.{length, take, drop, length-take, length-drop}
 use Rattle.model.specs.Refusal.{passed}
 use Rattle.model.specs.TransitionSystem.{Transition}
 use Rattle.model.specs.Machine.{Machine}
-use Rattle.model.specs.Text.{Input, Limits, nameAt, read, write}
+use Rattle.model.specs.Text.{Input, Limits, nameAt, read}
+use Rattle.model.specs.Table.{Reads}
 use Rattle.model.proofs.Positions.{below-at, at-mem}
+use Rattle.model.proofs.Texts.{limits-of}
 use Rattle.model.proofs.Naming.{name-part}
 use Rattle.model.proofs.Verdicts.{read-iff}
 use Rattle.rows.specs.Rows.{row}
@@ -27,13 +29,16 @@ row-below f n bound xs most each k h = let (x, a) = below-at xs k h in rw (row-a
 part-inside : (s w : List ℕ) (at : ℕ) → take (length w) (drop at s) ≡ w → 1 ≤ length w → at + length w ≤ length s
 part-inside s w at e h = omega (arith, ap length e, length-take (length w) (drop at s), length-drop at s)
 
-module _ (v : Input) (l : Limits v) where
-  value-bounded : Bounded (tablesOf v)
+module _ (s : List ℕ) (v : Input) (r : Reads s v) where
+  l : Limits v
+  l = limits-of s v r
+
+  value-bounded : Bounded (tablesOf s v)
   unfolding tablesOf
   value-bounded =
       record {
         states = l .states-most;
-        initial = omega (arith, l .initial, l .states-least);
+        initial = l .initial;
         events = l .names-most;
         names = λ e h. omega (arith, row-below length 64 17 (v .names) (l .names-most) (λ w m. omega (arith, l .names w m .most)) e h);
         transitions = l .transitions-most;
@@ -46,20 +51,20 @@ module _ (v : Input) (l : Limits v) where
             (arith, row-below (λ (m : Machine). length (m .places)) 16 65 (v .machines) (l .machines-most) (λ m i. omega (arith, l .machines m i .most)) k h);
       }
 
-  value-names-inside : NamesInside (write v) (tablesOf v .«name_at») (tablesOf v .«name_len») (tablesOf v .counts .events)
+  value-names-inside : NamesInside s (tablesOf s v .«name_at») (tablesOf s v .«name_len») (tablesOf s v .counts .events)
   unfolding NamesInside tablesOf
   value-names-inside e h =
       let (w, a) = below-at (v .names) e h in
-      rw (name-placed v l e h, row-at length 64 0 (v .names) e w 0 (l .names-most) a)
-      (part-inside (write v) w (nameAt v e) (name-part v e w a) (l .names w (at-mem (v .names) e w a) .least))
+      rw (name-placed s v r e h, row-at length 64 0 (v .names) e w 0 (l .names-most) a)
+      (part-inside s w (nameAt s v e) (name-part s v r e w a) (l .names w (at-mem (v .names) e w a) .least))
 
 -- ---- of a text that passed
 
 pub limits : (s : List ℕ) (v : Input) → read s ≡ passed v → Limits v
-limits s v e = read-iff s v .0 e .1
+limits s v e = limits-of s v (read-iff s v .0 e)
 
-pub bounded : (s : List ℕ) (v : Input) → read s ≡ passed v → Bounded (tablesOf v)
-bounded s v e = value-bounded v (limits s v e)
+pub bounded : (s : List ℕ) (v : Input) → read s ≡ passed v → Bounded (tablesOf s v)
+bounded s v e = value-bounded s v (read-iff s v .0 e)
 
-pub names-inside : (s : List ℕ) (v : Input) → read s ≡ passed v → NamesInside s (tablesOf v .«name_at») (tablesOf v .«name_len») (tablesOf v .counts .events)
-names-inside s v e = let r = read-iff s v .0 e in rw (r .0) (value-names-inside v (r .1))
+pub names-inside : (s : List ℕ) (v : Input) → read s ≡ passed v → NamesInside s (tablesOf s v .«name_at») (tablesOf s v .«name_len») (tablesOf s v .counts .events)
+names-inside s v e = value-names-inside s v (read-iff s v .0 e)

@@ -15,11 +15,13 @@ use Rattle.model.specs.Refusal.{passed}
 use Rattle.model.specs.TransitionSystem.{Transition, TransitionSystem}
 use Rattle.model.specs.Machine.{Place, Machine, duplicateState}
 use Rattle.model.specs.Machine as M
-use Rattle.model.specs.Text.{Input, system, Limits, nameAt, read, write}
+use Rattle.model.specs.Text.{Input, system, Limits, nameAt, read}
+use Rattle.model.specs.Table.{Reads}
 use Rattle.model.proofs.Laws.{dec, T-true, T-false, exists-intro, Lowest, found, absent, lowest-view}
 use Rattle.model.proofs.Positions.{at-below, below-at, at-mem, at-getD, at-value, index-below}
 use Rattle.model.proofs.Places.{home}
 use Rattle.model.proofs.Passed.{machines-good}
+use Rattle.model.proofs.Texts.{limits-of}
 use Rattle.model.proofs.Naming.{name-part}
 use Rattle.model.proofs.Verdicts.{read-iff}
 use Rattle.rows.specs.Rows.{row, tabulate, placeMark, placeRow, orNoState}
@@ -95,10 +97,13 @@ rows-at (y ∷ ms) (suc k) m x d a h =
     let z : suc k * 256 + x ≡ length (rowOf y) + (k * 256 + x) = omega (arith, length-placeRow (y .places)) in
     rw z (getD-append-add (rowOf y) (flatMap rowOf ms) (k * 256 + x) d ∙ rows-at ms k m x d a h)
 
--- ---- the tables of a value within its limits
+-- ---- the tables of a text and its value
 
-module _ (v : Input) (l : Limits v) where
-  transitions-told : (k : ℕ) → k ≤ length (v .transitions) → firstTransitions (tablesOf v .source) (tablesOf v .event) (tablesOf v .target) k ≡ take k (v .transitions)
+module _ (s : List ℕ) (v : Input) (r : Reads s v) where
+  l : Limits v
+  l = limits-of s v r
+
+  transitions-told : (k : ℕ) → k ≤ length (v .transitions) → firstTransitions (tablesOf s v .source) (tablesOf s v .event) (tablesOf s v .target) k ≡ take k (v .transitions)
   unfolding firstTransitions tablesOf
   transitions-told zero h = refl
   transitions-told (suc k) h =
@@ -107,26 +112,26 @@ module _ (v : Input) (l : Limits v) where
       let same : (f : Transition → ℕ) → entry (row 1024 0 (map f ts)) k ≡ f t = λ f. row-at f 1024 0 ts k t 0 (l .transitions-most) a in
       rw (take-suc ts k t, at-value ts k t t a, transitions-told k (omega arith), same (λ u. u .source), same (λ u. u .event), same (λ u. u .target))
 
-  system-told : systemOf (tablesOf v) ≡ system v
+  system-told : systemOf (tablesOf s v) ≡ system v
   unfolding systemOf tablesOf
   system-told = rw (transitions-told (length (v .transitions)) (omega arith), take-length (v .transitions))
 
-  pub name-placed : (e : ℕ) → e < length (v .names) → entry (tablesOf v .«name_at») e ≡ nameAt v e
+  pub name-placed : (e : ℕ) → e < length (v .names) → entry (tablesOf s v .«name_at») e ≡ nameAt s v e
   unfolding tablesOf
   name-placed e h =
       let n = length (v .names) in
-      getD-row 64 0 (tabulate (nameAt v) n) e 0 (omega (arith, length-tabulate (nameAt v) n)) (omega (arith, length-tabulate (nameAt v) n, l .names-most))
-      ∙ getD-tabulate (nameAt v) n e 0 h
+      getD-row 64 0 (tabulate (nameAt s v) n) e 0 (omega (arith, length-tabulate (nameAt s v) n)) (omega (arith, length-tabulate (nameAt s v) n, l .names-most))
+      ∙ getD-tabulate (nameAt s v) n e 0 h
 
-  name-told : (e : ℕ) → e < length (v .names) → nameOf (write v) (tablesOf v) e ≡ getD (v .names) e []
+  name-told : (e : ℕ) → e < length (v .names) → nameOf s (tablesOf s v) e ≡ getD (v .names) e []
   unfolding nameOf tablesOf
   name-told e h =
       let w = getD (v .names) e [] in
       let a : At (v .names) e w = at-getD (v .names) e [] h in
       let size : entry (row 64 0 (map length (v .names))) e ≡ length w = row-at length 64 0 (v .names) e w 0 (l .names-most) a in
-      rw (size, name-placed e h) (name-part v e w a)
+      rw (size, name-placed e h) (name-part s v r e w a)
 
-  machine-told : (k : ℕ) (m : Machine) → At (v .machines) k m → MachineTold (system v) (tablesOf v) k m
+  machine-told : (k : ℕ) (m : Machine) → At (v .machines) k m → MachineTold (system v) (tablesOf s v) k m
   unfolding duplicateAt placeAt duplicateState tablesOf
   machine-told k m a =
       let ms = v .machines in
@@ -144,7 +149,7 @@ module _ (v : Input) (l : Limits v) where
             ∙ place-option (m .places) x (l .machines m (at-mem ms k m a) .most);
       }
 
-  value-told : Told (write v) v (tablesOf v)
+  value-told : Told s v (tablesOf s v)
   unfolding tablesOf
   value-told =
       record {
@@ -155,8 +160,8 @@ module _ (v : Input) (l : Limits v) where
       }
 
 -- what the tables tell of a text that passed is its value
-pub told : (s : List ℕ) (v : Input) → read s ≡ passed v → Told s v (tablesOf v)
-told s v e = let r = read-iff s v .0 e in rw (r .0) (value-told v (r .1))
+pub told : (s : List ℕ) (v : Input) → read s ≡ passed v → Told s v (tablesOf s v)
+told s v e = value-told s v (read-iff s v .0 e)
 
 -- ---- what is told of the transition system, part by part
 

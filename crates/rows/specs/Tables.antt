@@ -33,11 +33,11 @@ countsOf v =
 -- Each row has its values from the front: of each event the place and the length of its name, of each transition its numbers, of each machine how many
 -- places it has, the lowest state that it lists twice, and the place of each state. An entry that is not in use is 0, in `duplicate` 256 (no state), in
 -- `place` 255 (unplaced).
-unfoldable pub tablesOf : Input → Tables
-tablesOf v =
+unfoldable pub tablesOf : List ℕ → Input → Tables
+tablesOf s v =
     record {
       counts = countsOf v;
-      «name_at» = row 64 0 (tabulate (nameAt v) (length (v .names)));
+      «name_at» = row 64 0 (tabulate (nameAt s v) (length (v .names)));
       «name_len» = row 64 0 (map length (v .names));
       source = row 1024 0 (map (λ (t : Transition). t .source) (v .transitions));
       event = row 1024 0 (map (λ (t : Transition). t .event) (v .transitions));

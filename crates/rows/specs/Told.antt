@@ -65,6 +65,6 @@ pub record MachinesTold (ts : TransitionSystem) (p : Tables) (ms : Decomposition
 
 pub record Told (s : List ℕ) (v : Input) (p : Tables) : Type 0 where
   pub tells-system : systemOf p ≡ system v
-  pub name-place : (e : ℕ) → e < length (v .names) → entry (p .«name_at») e ≡ nameAt v e
+  pub name-place : (e : ℕ) → e < length (v .names) → entry (p .«name_at») e ≡ nameAt s v e
   pub name : (e : ℕ) → e < length (v .names) → nameOf s p e ≡ getD (v .names) e []
   pub tells-machines : MachinesTold (system v) p (v .machines)

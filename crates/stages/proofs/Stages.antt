@@ -59,9 +59,9 @@ length-row : (n x : ℕ) (xs : List ℕ) → length (row n x xs) ≡ n
 unfolding row
 length-row n x xs = length-sets {A = ℕ} (replicate n x) 0 xs ∙ length-replicate {A = ℕ} n x
 
-filled-sized : (v : Input) → Sized (tablesOf v)
+filled-sized : (s : List ℕ) (v : Input) → Sized (tablesOf s v)
 unfolding tablesOf
-filled-sized v =
+filled-sized s v =
     record {
       checked =
           record {
@@ -86,7 +86,7 @@ module _ {s : List ℕ} {r : Verdict} {c : Counts} {ats lens sources events targ
         passes = reads;
         told = t .told v reads;
         bounds = subst Bounded (sym q) (bounded s v reads);
-        sized = subst Sized (sym q) (filled-sized v);
+        sized = subst Sized (sym q) (filled-sized s v);
         names = subst (λ (p : Tables). NamesInside s (p .«name_at») (p .«name_len») (p .counts .events)) (sym q) (names-inside s v reads);
       }
 

@@ -5,6 +5,7 @@ use mathlib.Core.Path.{_≡_, refl, ap, sym, _∙_}
 use mathlib.Core.Logic.{_⊎_, inl, inr, ⊎-elim}
 use mathlib.Core.Bool.{true, false, _&&_, and-eq-true-iff}
 use mathlib.Core.List.{List, [], _∷_, _++_, flatMap, append-nil}
+use mathlib.Core.Option.{Option}
 use lib.Dec.{ltb, leb}
 use borrow.Author.Tests.{ltb-true, ltb-false, leb-true, leb-false}
 use lib.ListN.{length, set, length-append}
@@ -33,9 +34,9 @@ use Rattle.reader.proofs.Rest.{and-not}
 use Rattle.model.proofs.ListLaws.{store}
 use Rattle.reader.proofs.Phases.{machines-none, machines-end, machine-fail, machine-many, machine-places, machine-undeclared, machine-more}
 
-pub record Machines (s : List ℕ) (n : ℕ) (es : List Name) (ts : List Named) (c : Checked Input) (k i : ℕ) (before now : MachineRows) : Type 0 where
+pub record Machines (s : List ℕ) (n : ℕ) (o : Option ℕ) (es : List Name) (ts : List Named) (c : Checked Input) (k i : ℕ) (before now : MachineRows) : Type 0 where
   pub machines : List Machine
-  pub rest : Rest s (lines n es ts machines) i c
+  pub rest : Rest s (lines n o es ts machines) i c
   pub last : length machines ≡ 0 → stepLine s i ≡ fail
   pub counted : k ≡ length machines
   pub rows : now ≡ withMachines n before machines
@@ -45,8 +46,8 @@ pub record SoFar (s : List ℕ) (at n line : ℕ) (before : MachineRows) (k i : 
   pub most : k ≤ 16
   pub states : n ≤ 256
   pub early : line ≤ 1027
-  pub so-far : (es : List Name) (ts : List Named) (c : Checked Input) → line ≡ 3 + length ts → stepLine s at ≡ fail → Rest s (begun n es ts) at c
-      → Machines s n es ts c k i before now
+  pub so-far : (o : Option ℕ) (es : List Name) (ts : List Named) (c : Checked Input) → line ≡ 3 + length ts → stepLine s at ≡ fail → Rest s (begun n o es ts) at c
+      → Machines s n o es ts c k i before now
 
 pub machines-start : {s : List ℕ} {at n line : ℕ} {before : MachineRows} → n ≤ 256 → line ≤ 1027 → SoFar s at n line before 0 at before
 unfolding withMachines flatMap
@@ -55,7 +56,7 @@ machines-start h l =
       most = omega arith;
       states = h;
       early = l;
-      so-far = λ es ts c p f r. record { machines = []; rest = r; last = λ _. f; counted = refl; rows = refl };
+      so-far = λ o es ts c p f r. record { machines = []; rest = r; last = λ _. f; counted = refl; rows = refl };
     }
 
 -- one row more in the table
@@ -75,36 +76,36 @@ within-not k p e = ⊎-elim (λ a. inl (ltb-false k 16 a)) (λ b. inr (leb-false
 
 module _ {s : List ℕ} {at n line : ℕ} {before : MachineRows} {k i : ℕ} {now : MachineRows} (z : SoFar s at n line before k i now) where
   -- the line that stands next is refused
-  section-stop : (why : D.Refusal) → ((es : List Name) (ts : List Named) (c : Checked Input) → line ≡ 3 + length ts → Machines s n es ts c k i before now
+  section-stop : (why : D.Refusal) → ((o : Option ℕ) (es : List Name) (ts : List Named) (c : Checked Input) → line ≡ 3 + length ts → Machines s n o es ts c k i before now
       → c ≡ refused (tabled why)) → ReadsMachines s at n line (Refused why) before now
   unfolding ReadsMachines MachinesRead
-  section-stop why f = λ es ts c p l r. f es ts c p (z .so-far es ts c p l r)
+  section-stop why f = λ o es ts c p l r. f o es ts c p (z .so-far o es ts c p l r)
 
   -- the end of the text
   pub section-none : length s ≤ i → k ≡ 0 → ReadsMachines s at n line (Refused (C.LimitExceeded line)) before now
   unfolding tabled
-  section-none h e = section-stop (C.LimitExceeded line) (λ es ts c p t. machines-none ts (t .machines) (t .rest) (t .counted) p h e)
+  section-none h e = section-stop (C.LimitExceeded line) (λ o es ts c p t. machines-none ts (t .machines) (t .rest) (t .counted) p h e)
 
   pub section-end : length s ≤ i → (k ≡ 0 → ⊥) → ReadsMachines s at n line (Read k i) before now
   unfolding ReadsMachines MachinesRead
-  section-end h e = λ es ts c p l r.
-      let t = z .so-far es ts c p l r in
+  section-end h e = λ o es ts c p l r.
+      let t = z .so-far o es ts c p l r in
       record { machines = t .machines; whole = machines-end ts (t .machines) (t .rest) (t .counted) p h (omega (arith, e)); counted = t .counted; rows = t .rows }
 
   -- no machine line stands next
   pub section-malformed : i < length s → machineLine s i ≡ fail → ReadsMachines s at n line (Refused (C.Malformed (line + k))) before now
   unfolding tabled
-  section-malformed h e = section-stop (C.Malformed (line + k)) (λ es ts c p t. machine-fail ts (t .machines) (t .rest) (t .counted) p (t .last) h e)
+  section-malformed h e = section-stop (C.Malformed (line + k)) (λ o es ts c p t. machine-fail ts (t .machines) (t .rest) (t .counted) p (t .last) h e)
 
   module _ {m : MachineLine} (g : GotMachine n (machineLine s i) m) where
     pub section-limit : (ltb k 16 && leb (m .places) 64) ≡ false → ReadsMachines s at n line (Refused (C.LimitExceeded (line + k))) before now
     unfolding tabled
-    section-limit e = section-stop (C.LimitExceeded (line + k)) (λ es ts c p t. go es ts c p t (within-not k (m .places) e))
+    section-limit e = section-stop (C.LimitExceeded (line + k)) (λ o es ts c p t. go o es ts c p t (within-not k (m .places) e))
       where
-        go : (es : List Name) (ts : List Named) (c : Checked Input) → line ≡ 3 + length ts → Machines s n es ts c k i before now → (16 ≤ k) ⊎ (64 < m .places)
+        go : (o : Option ℕ) (es : List Name) (ts : List Named) (c : Checked Input) → line ≡ 3 + length ts → Machines s n o es ts c k i before now → (16 ≤ k) ⊎ (64 < m .places)
             → c ≡ refused (tabled (C.LimitExceeded (line + k)))
-        go es ts c p t (inl h) = machine-many ts (t .machines) (t .rest) (t .counted) p (t .last) (g .read) h
-        go es ts c p t (inr h) = machine-places ts (t .machines) (t .rest) (t .counted) p (t .last) (g .read) (omega (arith, g .counted))
+        go o es ts c p t (inl h) = machine-many ts (t .machines) (t .rest) (t .counted) p (t .last) (g .read) h
+        go o es ts c p t (inr h) = machine-places ts (t .machines) (t .rest) (t .counted) p (t .last) (g .read) (omega (arith, g .counted))
 
     module _ (w : (ltb k 16 && leb (m .places) 64) ≡ true) where
       small : length (g .listed) ≤ 64
@@ -114,7 +115,7 @@ module _ {s : List ℕ} {at n line : ℕ} {before : MachineRows} {k i : ℕ} {no
       unfolding tabled
       section-undeclared e =
           section-stop (C.Undeclared (line + k))
-          (λ es ts c p t. machine-undeclared ts (t .machines) (t .rest) (t .counted) p (t .last) (g .read) (within-both k (m .places) w .0) small (sym (g .all-declared) ∙ e))
+          (λ o es ts c p t. machine-undeclared ts (t .machines) (t .rest) (t .counted) p (t .last) (g .read) (within-both k (m .places) w .0) small (sym (g .all-declared) ∙ e))
 
       module _ (e : m .declared ≡ true) where
         declared : allBelow n (g .listed) ≡ true
@@ -132,8 +133,8 @@ module _ {s : List ℕ} {at n line : ℕ} {before : MachineRows} {k i : ℕ} {no
               most = omega (arith, section-room);
               states = z .states;
               early = z .early;
-              so-far = λ es ts c p l r.
-                  let t = z .so-far es ts c p l r in
+              so-far = λ o es ts c p l r.
+                  let t = z .so-far o es ts c p l r in
                   let ms = t .machines in
                   let x : Machine = record { places = g .listed } in
                   record {
@@ -151,12 +152,12 @@ module _ {s : List ℕ} {at n line : ℕ} {before : MachineRows} {k i : ℕ} {no
             }
 
 -- what is promised of a section that was read, and of one that was refused
-pub machines-found : {n : ℕ} {es : List Name} {ts : List Named} {c : Checked Input} {k next : ℕ} {before after : MachineRows} {r : Section} → r ≡ Read k next
-    → MachinesRead n es ts c r before after → MachinesFound n es ts c k before after
+pub machines-found : {n : ℕ} {o : Option ℕ} {es : List Name} {ts : List Named} {c : Checked Input} {k next : ℕ} {before after : MachineRows} {r : Section} → r ≡ Read k next
+    → MachinesRead n o es ts c r before after → MachinesFound n o es ts c k before after
 unfolding MachinesRead
 machines-found q h = rw q at h
 
-pub machines-refused : (n : ℕ) (es : List Name) (ts : List Named) (before after : MachineRows) {c : Checked Input} {why : D.Refusal} {r : Section} → r ≡ Refused why
-    → MachinesRead n es ts c r before after → c ≡ refused (tabled why)
+pub machines-refused : (n : ℕ) (o : Option ℕ) (es : List Name) (ts : List Named) (before after : MachineRows) {c : Checked Input} {why : D.Refusal} {r : Section} → r ≡ Refused why
+    → MachinesRead n o es ts c r before after → c ≡ refused (tabled why)
 unfolding MachinesRead
-machines-refused n es ts before after q h = rw q at h
+machines-refused n o es ts before after q h = rw q at h

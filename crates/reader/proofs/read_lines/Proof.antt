@@ -49,25 +49,25 @@ all-counts-requires c κs = search needs
 
 returns : tie.Need-returns
 unfolding ReadsLines ReadsSteps StepsRead
-returns c = λ es x ats d a r.
-    rows-refused (rw (c .before .before .why .given .1) at (c .before .before .before .before .read-transitions .ensures .1 es x d r)) (c .no-counts .ensures .0) (c .no-counts .ensures .1)
+returns c = λ o es x ats z d a r.
+    rows-refused (rw (c .before .before .why .given .1) at (c .before .before .before .before .read-transitions .ensures .1 o es x d r)) (c .no-counts .ensures .0) (c .no-counts .ensures .1)
 
 returns-2 : tie.Need-returns-2
 unfolding ReadsLines ReadsSteps ReadsMachines
-returns-2 c = λ es x ats d a r.
+returns-2 c = λ o es x ats z d a r.
     let m = c .before .before .before .before in
-    let t = steps-found (stepped m .before .k .given .1) (stepped m .before .before .before .read-transitions .ensures .1 es x d r) in
-    rows-refused (machines-refused _ _ _ _ _ (c .before .before .why2 .given .1) (m .read-machines .ensures es (t .steps) x (omega (arith, t .counted)) (t .last) (t .rest))) (c .no-counts2 .ensures .0) (c .no-counts2 .ensures .1)
+    let t = steps-found (stepped m .before .k .given .1) (stepped m .before .before .before .read-transitions .ensures .1 o es x d r) in
+    rows-refused (machines-refused _ _ _ _ _ _ (c .before .before .why2 .given .1) (m .read-machines .ensures o es (t .steps) x (omega (arith, t .counted)) (t .last) (t .rest))) (c .no-counts2 .ensures .0) (c .no-counts2 .ensures .1)
 
 returns-3 : tie.Need-returns-3
 unfolding ReadsLines ReadsSteps ReadsMachines
-returns-3 c = λ es x ats d a r.
+returns-3 c = λ o es x ats z d a r.
     let m = c .before .before .before .before in
     let p = stepped m .before .before .before .before .before .before .before .before .pre .1 in
-    let t = steps-found (stepped m .before .k .given .1) (stepped m .before .before .before .read-transitions .ensures .1 es x d r) in
-    let u = machines-found (c .before .before .count .given .1) (m .read-machines .ensures es (t .steps) x (omega (arith, t .counted)) (t .last) (t .rest)) in
+    let t = steps-found (stepped m .before .k .given .1) (stepped m .before .before .before .read-transitions .ensures .1 o es x d r) in
+    let u = machines-found (c .before .before .count .given .1) (m .read-machines .ensures o es (t .steps) x (omega (arith, t .counted)) (t .last) (t .rest)) in
     rw (c .all-counts .ensures)
-    (rows-passed (t .steps) (u .machines) (d .rows) a (p .0) (p .1) (u .whole) (t .counted) (t .rows) (u .counted) (u .rows))
+    (rows-passed (t .steps) (u .machines) z (d .rows) a (p .0) (p .1) (u .whole) (t .counted) (t .rows) (u .counted) (u .rows))
 
 pub read-lines-spec : {M : Type 1} → statement M
 read-lines-spec =

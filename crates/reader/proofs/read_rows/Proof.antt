@@ -52,8 +52,9 @@ returns c =
 returns-2 : tie.Need-returns-2
 unfolding ReadsLines
 returns-2 c =
-    let e = first (c .before .before .before .before .before .before .before .before .before .before) .found in
-    answering-rows _ (c .read-lines .ensures (e .names) _ _ (e .held) (e .placed) (e .rest))
+    let f = first (c .before .before .before .before .before .before .before .before .before .before) in
+    let e = f .found in
+    answering-rows _ (c .read-lines .ensures (f .start) (e .names) _ _ (f .initial) (e .held) (e .placed) (e .rest))
 
 pub read-rows-spec : {M : Type 1} → statement M
 read-rows-spec =

@@ -5,6 +5,7 @@ use mathlib.Core.Path.{_≡_, refl, ap, sym, _∙_}
 use mathlib.Core.Logic.{_⊎_, inl, inr, ⊎-elim}
 use mathlib.Core.Bool.{Bool, true, false, _&&_, and-eq-true-iff}
 use mathlib.Core.List.{List, [], _∷_, _++_}
+use mathlib.Core.Option.{Option}
 use lib.Dec.{T, ltb}
 use borrow.Author.Tests.{ltb-true, ltb-false}
 use lib.ListN.{length, getD, set, length-append}
@@ -31,20 +32,20 @@ use Rattle.reader.proofs.Rest.{and-not}
 use Rattle.model.proofs.ListLaws.{store}
 use Rattle.reader.proofs.Phases.{step-many, step-source, step-target, step-event, step-more}
 
-pub record Steps (s : List ℕ) (n : ℕ) (es : List Name) (c : Checked Input) (k i : ℕ) (before now : TransitionRows) : Type 0 where
+pub record Steps (s : List ℕ) (n : ℕ) (o : Option ℕ) (es : List Name) (c : Checked Input) (k i : ℕ) (before now : TransitionRows) : Type 0 where
   pub steps : List Named
-  pub rest : Rest s (begun n es steps) i c
+  pub rest : Rest s (begun n o es steps) i c
   pub counted : k ≡ length steps
   pub rows : now ≡ withSteps es before steps
 
-module _ {s : List ℕ} {n : ℕ} {es : List Name} {c : Checked Input} {before : TransitionRows} where
-  pub steps-start : {at : ℕ} → Rest s (begun n es []) at c → Steps s n es c 0 at before before
+module _ {s : List ℕ} {n : ℕ} {o : Option ℕ} {es : List Name} {c : Checked Input} {before : TransitionRows} where
+  pub steps-start : {at : ℕ} → Rest s (begun n o es []) at c → Steps s n o es c 0 at before before
   unfolding withSteps
   steps-start r = record { steps = []; rest = r; counted = refl; rows = refl }
 
-  steps-more : {k i a b next p x q : ℕ} {e : Name} {now : TransitionRows} → Steps s n es c k i before now → stepLine s i ≡ got (step a e b) next → k < 1024
+  steps-more : {k i a b next p x q : ℕ} {e : Name} {now : TransitionRows} → Steps s n o es c k i before now → stepLine s i ≡ got (step a e b) next → k < 1024
       → a < n → b < n → p ≡ a → x ≡ eventNumber es e → q ≡ b → x < length es
-      → Steps s n es c (k + 1) next before (transitionRows (set (now .source) k p) (set (now .event) k x) (set (now .target) k q))
+      → Steps s n o es c (k + 1) next before (transitionRows (set (now .source) k p) (set (now .event) k x) (set (now .target) k q))
   unfolding withSteps
   steps-more {k} {a = a} {b} {p = p} {x} {q} {e} {now} z g room i j source number target h =
       let t : Named = record { source = a; event = e; target = b } in
@@ -65,7 +66,7 @@ pub record SoFar (s : List ℕ) (at n count : ℕ) (lens highs lows : List ℕ) 
   pub most : k ≤ 1024
   pub few : count ≤ 64
   pub states : n ≤ 256
-  pub so-far : (es : List Name) (c : Checked Input) → DistinctRows es count lens highs lows → Rest s (begun n es []) at c → Steps s n es c k i before now
+  pub so-far : (o : Option ℕ) (es : List Name) (c : Checked Input) → DistinctRows es count lens highs lows → Rest s (begun n o es []) at c → Steps s n o es c k i before now
 
 -- three tests in one
 abbrev Test : ℕ → ℕ → ℕ → ℕ → ℕ → Bool
@@ -96,19 +97,19 @@ quick-line o q = q .line (o .names) (o .held .rows)
 module _ {s : List ℕ} {at n count : ℕ} {lens highs lows : List ℕ} {k : ℕ} where
   pub step-limit : {a b next : ℕ} {e : Name} → stepLine s at ≡ got (step a e b) next → 1024 ≤ k → StepRefused s at n count lens highs lows k (C.LimitExceeded (3 + k))
   unfolding tabled
-  step-limit g m = record { stops = λ es ts c _ q r. step-many ts r g q m }
+  step-limit g m = record { stops = λ o es ts c _ q r. step-many ts r g q m }
 
   -- read word by word
   module _ {w : StepWords} (g : GotStep (stepLine s at) w) (room : k < 1024) {x : ℕ} (f : Finds count lens highs lows (w .«len») (w .«high») (w .«low») x) where
     pub step-undeclared : Test (w .source) (w .target) n x count ≡ false → StepRefused s at n count lens highs lows k (C.Undeclared (3 + k))
     unfolding tabled
-    step-undeclared h = record { stops = λ es ts c d q r. go es ts c d q r (one-above (w .source) (w .target) n x count h) }
+    step-undeclared h = record { stops = λ o es ts c d q r. go o es ts c d q r (one-above (w .source) (w .target) n x count h) }
       where
-        go : (es : List Name) (ts : List Named) (c : Checked Input) → DistinctRows es count lens highs lows → k ≡ length ts → Rest s (begun n es ts) at c
+        go : (o : Option ℕ) (es : List Name) (ts : List Named) (c : Checked Input) → DistinctRows es count lens highs lows → k ≡ length ts → Rest s (begun n o es ts) at c
             → (n ≤ w .source) ⊎ ((count ≤ x) ⊎ (n ≤ w .target)) → c ≡ refused (tabled (C.Undeclared (3 + k)))
-        go es ts c d q r (inl m) = step-source ts r (g .read) q room m
-        go es ts c d q r (inr (inl m)) = step-event ts r (g .read) q room (omega (arith, number g f es d, d .rows .counted))
-        go es ts c d q r (inr (inr m)) = step-target ts r (g .read) q room m
+        go o es ts c d q r (inl m) = step-source ts r (g .read) q room m
+        go o es ts c d q r (inr (inl m)) = step-event ts r (g .read) q room (omega (arith, number g f es d, d .rows .counted))
+        go o es ts c d q r (inr (inr m)) = step-target ts r (g .read) q room m
 
     pub step-declared : Test (w .source) (w .target) n x count ≡ true → StepFound s at n count lens highs lows k (w .source) x (w .target) (w .next)
     step-declared h =
@@ -151,15 +152,15 @@ module _ {s : List ℕ} {at n count : ℕ} {lens highs lows : List ℕ} {before 
   unfolding countOf ReadsSteps StepsRead
   section-end f = (
     z .most,
-    λ es c d r.
-        let t = z .so-far es c d r in
+    λ o es c d r.
+        let t = z .so-far o es c d r in
         record { steps = t .steps; rest = t .rest; last = f; counted = t .counted; rows = t .rows },
   )
 
   -- the step line that stands next is refused
   pub section-stop : {why : D.Refusal} → StepRefused s i n count lens highs lows k why → Promised s at n count lens highs lows (Refused why) before now
   unfolding countOf ReadsSteps StepsRead
-  section-stop f = (omega arith, λ es c d r. let t = z .so-far es c d r in f .stops es (t .steps) c d (t .counted) (t .rest))
+  section-stop f = (omega arith, λ o es c d r. let t = z .so-far o es c d r in f .stops o es (t .steps) c d (t .counted) (t .rest))
 
   -- it is declared, and its numbers are stored
   pub section-more : {a e b next p y q : ℕ} → StepFound s i n count lens highs lows k a e b next → p ≡ a → y ≡ e → q ≡ b
@@ -169,12 +170,12 @@ module _ {s : List ℕ} {at n count : ℕ} {lens highs lows : List ℕ} {before 
         most = omega (arith, g .room);
         few = z .few;
         states = z .states;
-        so-far = λ es c d r.
-            steps-more (z .so-far es c d r) (g .line) (g .room) (g .source) (g .target) source (event ∙ g .number es d) target (omega (arith, d .rows .counted, g .event));
+        so-far = λ o es c d r.
+            steps-more (z .so-far o es c d r) (g .line) (g .room) (g .source) (g .target) source (event ∙ g .number es d) target (omega (arith, d .rows .counted, g .event));
       }
 
 -- what is promised of a section that was read
-pub steps-found : {s : List ℕ} {n : ℕ} {es : List Name} {c : Checked Input} {k next : ℕ} {before after : TransitionRows} {r : Section} → r ≡ Read k next
-    → StepsRead s n es c r before after → StepsFound s n es c k next before after
+pub steps-found : {s : List ℕ} {n : ℕ} {o : Option ℕ} {es : List Name} {c : Checked Input} {k next : ℕ} {before after : TransitionRows} {r : Section} → r ≡ Read k next
+    → StepsRead s n o es c r before after → StepsFound s n o es c k next before after
 unfolding StepsRead
 steps-found q h = rw q at h

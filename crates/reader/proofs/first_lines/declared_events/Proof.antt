@@ -47,11 +47,11 @@ read-events-requires c κs = fresh-full (c .before .before .before .before .befo
 
 returns : tie.Need-returns
 unfolding ReadsEvents EventsRead tabled
-returns c = λ n x r. events-fail r (events-missing _ _ (c .before .read-events .ensures .0) (not-true _ (c .if1 .taken)))
+returns c = λ n o x r. events-fail r (events-missing _ _ (c .before .read-events .ensures .0) (not-true _ (c .if1 .taken)))
 
 returns-2 : tie.Need-returns-2
 unfolding ReadsEvents EventsRead tabled
-returns-2 c = λ n x r. events-many r (listed (c .before) .read) (omega (arith, listed (c .before) .counted, c .if2 .taken))
+returns-2 c = λ n o x r. events-many r (listed (c .before) .read) (omega (arith, listed (c .before) .counted, c .if2 .taken))
 
 distinct-names-requires : tie.Need-distinct-names-requires
 distinct-names-requires c κs = search needs
@@ -60,14 +60,14 @@ returns-3 : tie.Need-returns-3
 unfolding ReadsEvents EventsRead tabled
 returns-3 c =
     let d = limited (c .before) in
-    λ n x r. events-twice r (listed (d .before) .read) (held d .most) (sym (once (c .before)) ∙ not-true _ (c .if3 .taken))
+    λ n o x r. events-twice r (listed (d .before) .read) (held d .most) (sym (once (c .before)) ∙ not-true _ (c .if3 .taken))
 
 returns-4 : tie.Need-returns-4
 unfolding ReadsEvents EventsRead
 returns-4 c =
     let d = limited (c .before) in
     let all = sym (once (c .before)) ∙ not-false _ (c .if3 .left) in
-    λ n x r. record {
+    λ n o x r. record {
       names = listed (d .before) .names;
       held = record { rows = held d; once = all };
       placed = events-placed (listed (d .before)) (start (d .before .before) .pre);

@@ -1,32 +1,25 @@
 -- `reader::declared_states` meets its contract. Each way out is a law of `Phases`.
 use Prim.Native.Nat.{ℕ, _≤_}
-use mathlib.Core.Path.{_≡_}
 use mathlib.Core.List.{List}
 use denote.Ref.{now}
 use lib.ListN.{length}
 use borrow.Author.Needs.{needs}
 use Rattle.model.specs.Cases.{tabled}
-use Rattle.model.specs.Reading.{got}
-use Rattle.model.specs.Form.{states, statesLine}
+use Rattle.model.specs.Form.{statesLine}
 use Rattle.model.proofs.Whole.{read-long}
-use Rattle.lines.proofs.Found.{states-got, states-missing}
+use Rattle.lines.proofs.Found.{GotStates, states-got, states-missing}
 use Rattle.reader.specs.Sections.{StatesRead}
-use Rattle.reader.proofs.Phases.{states-fail, states-none, states-many, states-more}
+use Rattle.reader.proofs.Phases.{states-fail, states-next, states-none, states-many, start-undeclared, states-more}
 use Rattle.reader.proofs.first_lines.declared_states.Statement.{statement}
 use Rattle.reader.proofs.first_lines.declared_states.Tie as tie
 
--- behind the states line: the text, the count of states and the position
+-- behind the states line: the text, and what the line says
 abbrev text : tie.After-known-told → List ℕ
 text c = now (c .before .before .before .before .before .before .args .s)
 
-abbrev count : tie.After-known-told → ℕ
-count c = c .before .n .given .0 .0
-
-abbrev after : tie.After-known-told → ℕ
-after c = c .before .n .given .0 .1 .0
-
-line : (c : tie.After-known-told) → statesLine (text c) 0 ≡ got (states (count c)) (after c)
-line c = states-got _ _ (c .before .before .before .read-states .ensures) (c .before .n .given .1)
+line : (c : tie.After-known-told)
+    → GotStates (statesLine (text c) 0) (c .before .count .given .0 .0) (c .before .count .given .0 .1 .0) (c .before .count .given .0 .1 .1 .0)
+line c = states-got _ _ (c .before .before .before .read-states .ensures) (c .before .count .given .1)
 
 -- the text is within its bound
 short : (c : tie.After-known-told) → length (text c) ≤ 32768
@@ -39,8 +32,8 @@ returns c = read-long _ (c .if1 .taken)
 read-states-requires : tie.Need-read-states-requires
 read-states-requires c κs = search needs
 
-enum-known-n : tie.Need-enum-known-n
-enum-known-n c = search needs
+enum-known-count : tie.Need-enum-known-count
+enum-known-count c = search needs
 
 enum-told : tie.Need-enum-told
 enum-told c = search needs
@@ -59,10 +52,23 @@ unfolding StatesRead tabled
 returns-4 c = states-many _ (line (c .before .before)) (short (c .before .before)) (c .if3 .taken)
 
 returns-5 : tie.Need-returns-5
-unfolding StatesRead
+unfolding StatesRead tabled
 returns-5 c =
-    let d = c .before .before in
-    record { few = c .if3 .left; line = line d; rest = states-more _ (line d) (short d) (c .before .if2 .left) (c .if3 .left) }
+    let d = c .before .before .before in
+    start-undeclared _ (line d) (short d) (c .before .before .if2 .left) (c .before .if3 .left) (c .if4 .taken)
+
+returns-6 : tie.Need-returns-6
+unfolding StatesRead
+returns-6 c =
+    let d = c .before .before .before in
+    let few = c .before .if3 .left in
+    record {
+      few = few;
+      start = line d .start;
+      initial = line d .initial;
+      ends = states-next _ (line d);
+      rest = states-more _ (line d) (short d) (c .before .before .if2 .left) few (c .if4 .left);
+    }
 
 pub declared-states-spec : {M : Type 1} → statement M
 declared-states-spec =
@@ -70,9 +76,10 @@ declared-states-spec =
     (tie.spec
     returns
     read-states-requires
-    enum-known-n
+    enum-known-count
     enum-told
     returns-2
     returns-3
     returns-4
-    returns-5)
+    returns-5
+    returns-6)

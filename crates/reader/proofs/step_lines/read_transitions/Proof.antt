@@ -47,7 +47,7 @@ fill-hints-requires c κs = search needs
 loop-holds : tie.Need-loop-holds Inv-loop μ-loop
 loop-holds c =
     let p = c .before .before .before .pre in
-    record { most = omega arith; few = p .1; states = p .0; so-far = λ es x d r. steps-start r }
+    record { most = omega arith; few = p .1; states = p .0; so-far = λ o es x d r. steps-start r }
 
 step-at-requires : tie.Need-step-at-requires Inv-loop μ-loop
 step-at-requires c κs = search needs

@@ -1,0 +1,172 @@
+-- Texts and values: what a text's lines say is within the limits, and every value within the limits is read from its text.
+use Prim.Native.Nat.{ℕ, zero, suc, _+_, _≤_}
+use native.Mathlib.Omega.{arith}
+use native.Mathlib.Numerals.{add-two}
+use mathlib.Core.Path.{_≡_, refl, ap, sym, _∙_, subst}
+use mathlib.Core.Logic.{_⊎_, inl, inr}
+use mathlib.Core.Bool.{not}
+use mathlib.Core.List.{List, [], _∷_, _++_, map, flatMap, append-nil}
+use mathlib.Core.Option.{Option, none, some, Option·none-ne-some, Option·some-injective}
+use lib.Dec.{T}
+use lib.ListN.{length, getD, length-append}
+use Rattle.model.specs.Lists.{At, exists, count}
+use Rattle.model.specs.TransitionSystem.{Transition}
+use Rattle.model.specs.Machine.{Machine}
+use Rattle.model.specs.Bytes.{Name}
+use Rattle.model.specs.Form.{Line, states, events, step, machine, writtenStart, startOf, written, isMachineLine}
+use Rattle.model.specs.Text.{Input, valueOf, shortest, linesWith, linesOf, write, Limits}
+use Rattle.model.specs.Table.{Begins, Fine, Reads}
+use Rattle.model.proofs.Laws.{dec}
+use Rattle.model.proofs.Counting.{count-some, count-none}
+use Rattle.model.proofs.Chains.{Each, Proper, each-map, each-all, all-each, begun, begins}
+use Rattle.model.proofs.Values.{Both, Named, lines, Shape, shape, machines-counted, Plain, plain, both, numbered, named, input, value-of-lines, lines-with, lines-again, limits, plain-limits, value-again}
+
+-- complete lines, with a machine
+pub record Complete (ls : List Line) : Type 0 where
+  pub good : Each Proper [] ls
+  pub fine : Each Fine [] ls
+  pub two : 2 ≤ length ls
+  pub machine : T (exists isMachineLine ls)
+
+pub complete-reads : (s : List ℕ) (ls : List Line) → Begins s ls [] → Complete ls → length s ≤ 32768 → Reads s (valueOf ls)
+complete-reads s ls b c h =
+    record {
+      size = h;
+      lines = ls;
+      bytes = b;
+      fine = each-all Fine [] ls (c .fine);
+      two = c .two;
+      machine = count-some isMachineLine ls (c .machine);
+      value = refl;
+    }
+
+counted-exists : (ls : List Line) → 1 ≤ count isMachineLine ls → T (exists isMachineLine ls)
+counted-exists ls h = go (dec (exists isMachineLine ls))
+  where
+    go : T (exists isMachineLine ls) ⊎ T (not (exists isMachineLine ls)) → T (exists isMachineLine ls)
+    go (inl t) = t
+    go (inr t) = absurd (omega (arith, count-none isMachineLine ls t))
+
+pub reads-complete : (s : List ℕ) (v : Input) (r : Reads s v) → Complete (r .lines)
+reads-complete s v r =
+    record {
+      good = begun s (r .lines) [] (r .bytes) .good;
+      fine = all-each Fine [] (r .lines) (r .fine);
+      two = r .two;
+      machine = counted-exists (r .lines) (r .machine);
+    }
+
+lines-complete : (n : ℕ) (o : Option ℕ) (es : List Name) (ts : List Named) (ms : List Machine) → Plain n o es ts ms → 1 ≤ length ms → Complete (lines n o es ts ms)
+lines-complete n o es ts ms p h =
+    record {
+      good = each-map Both Proper (λ xs l b. b .good) [] (lines n o es ts ms) (both n o es ts ms p);
+      fine = each-map Both Fine (λ xs l b. b .fine) [] (lines n o es ts ms) (both n o es ts ms p);
+      two = omega arith;
+      machine = counted-exists (lines n o es ts ms) (subst (λ (k : ℕ). 1 ≤ k) (sym (machines-counted n o es ts ms ms)) h);
+    }
+
+-- ---- what a text's lines say
+
+shortest-start : (k : ℕ) → startOf (shortest k) ≡ k
+unfolding shortest
+shortest-start zero = refl
+shortest-start (suc k) = refl
+
+shortest-bytes : (n : ℕ) (o : Option ℕ) → length (written (states n (shortest (startOf o)))) ≤ length (written (states n o))
+unfolding shortest written writtenStart
+shortest-bytes n none = omega arith
+shortest-bytes n (some zero) = simp length-append (omega arith)
+shortest-bytes n (some (suc k)) = omega arith
+
+shortest-text : (n : ℕ) (o : Option ℕ) (es : List Name) (ts : List Named) (ms : List Machine)
+    → length (flatMap written (lines n (shortest (startOf o)) es ts ms)) ≤ length (flatMap written (lines n o es ts ms))
+unfolding flatMap
+shortest-text n o es ts ms = simp length-append (omega (arith, shortest-bytes n o))
+
+-- The lines of a text that gives a value are the value's, line 1 in one of its forms.
+pub record ValueLines (s : List ℕ) (v : Input) (ls : List Line) : Type 0 where
+  pub start : Option ℕ
+  pub initial : startOf start ≡ v .initial
+  pub lines : ls ≡ linesWith start v
+  pub bytes : s ≡ flatMap written (linesWith start v)
+  pub limits : Limits v
+
+pub value-lines : (s : List ℕ) (v : Input) (r : Reads s v) → ValueLines s v (r .lines)
+unfolding write linesOf
+value-lines s v r = subst (λ (x : Input). ValueLines s x (r .lines)) (sym is) (record {
+  start = w .start;
+  initial = refl;
+  lines = own;
+  bytes = bytes;
+  limits = limits (w .states) (w .start) (w .names) (w .steps) (w .machines) p few some-machine;
+})
+  where
+    c : Complete (r .lines)
+    c = reads-complete s v r
+
+    w : Shape (r .lines)
+    w = shape (r .lines) (c .good) (c .two)
+
+    d : Complete (lines (w .states) (w .start) (w .names) (w .steps) (w .machines))
+    d = subst (λ (k : List Line). Complete k) (w .shaped) c
+
+    p : Plain (w .states) (w .start) (w .names) (w .steps) (w .machines)
+    p = plain (w .states) (w .start) (w .names) (w .steps) (w .machines) (d .good) (d .fine)
+
+    is : v ≡ input (w .states) (startOf (w .start)) (w .names) (map (numbered (w .names)) (w .steps)) (w .machines)
+    is = r .value ∙ ap valueOf (w .shaped) ∙ value-of-lines (w .states) (w .start) (w .names) (w .steps) (w .machines)
+
+    own : r .lines ≡ linesWith (w .start) (input (w .states) (startOf (w .start)) (w .names) (map (numbered (w .names)) (w .steps)) (w .machines))
+    own = w .shaped ∙ sym (lines-again (w .states) (w .start) (w .names) (w .steps) (w .machines) p (w .start))
+
+    whole : s ≡ flatMap written (r .lines)
+    whole = begun s (r .lines) [] (r .bytes) .bytes ∙ append-nil (flatMap written (r .lines))
+
+    bytes : s ≡ flatMap written (linesWith (w .start) (input (w .states) (startOf (w .start)) (w .names) (map (numbered (w .names)) (w .steps)) (w .machines)))
+    bytes = whole ∙ ap (flatMap written) own
+
+    few : length (write (input (w .states) (startOf (w .start)) (w .names) (map (numbered (w .names)) (w .steps)) (w .machines))) ≤ 32768
+    few = rw (lines-again (w .states) (w .start) (w .names) (w .steps) (w .machines) p (shortest (startOf (w .start))))
+        (omega (arith, r .size, ap length (whole ∙ ap (flatMap written) (w .shaped)), shortest-text (w .states) (w .start) (w .names) (w .steps) (w .machines)))
+
+    some-machine : 1 ≤ length (w .machines)
+    some-machine =
+        subst (λ (k : ℕ). 1 ≤ k) (machines-counted (w .states) (w .start) (w .names) (w .steps) (w .machines) (w .machines))
+        (count-some isMachineLine (lines (w .states) (w .start) (w .names) (w .steps) (w .machines)) (d .machine))
+
+-- what is read is within the limits
+pub limits-of : (s : List ℕ) (v : Input) → Reads s v → Limits v
+limits-of s v r = value-lines s v r .limits
+
+-- the line of transition k
+step-line : (f : Transition → Line) (ts : List Transition) (rest : List Line) (k : ℕ) (t : Transition) → At ts k t → At (map f ts ++ rest) k (f t)
+step-line f [] rest k t a = absurd (Option·none-ne-some t a)
+step-line f (u ∷ ts) rest zero t a = ap (λ (x : Transition). some (f x)) (Option·some-injective u t a)
+step-line f (u ∷ ts) rest (suc k) t a = step-line f ts rest k t a
+
+pub line-of : (s : List ℕ) (v : Input) (r : Reads s v) (k : ℕ) (t : Transition) → At (v .transitions) k t
+    → At (r .lines) (k + 2) (step (t .source) (getD (v .names) (t .event) []) (t .target))
+unfolding linesWith
+line-of s v r k t a =
+    let l = value-lines s v r in
+    rw (l .lines, add-two k)
+    (step-line (λ (x : Transition). step (x .source) (getD (v .names) (x .event) []) (x .target)) (v .transitions) (map (λ (m : Machine). machine (m .places)) (v .machines)) k t a)
+
+-- ---- every value within the limits is read from the text that writes it
+
+limits-complete : (v : Input) → Limits v → Complete (linesOf v)
+unfolding linesOf
+limits-complete v l =
+    subst
+    (λ (k : List Line). Complete k)
+    (sym (lines-with (shortest (v .initial)) v))
+    (lines-complete (v .states) (shortest (v .initial)) (v .names) (map (named (v .names)) (v .transitions)) (v .machines)
+    (plain-limits v l (shortest (v .initial)) (shortest-start (v .initial))) (l .machines-least))
+
+pub write-reads : (v : Input) → Limits v → Reads (write v) v
+unfolding write linesOf
+write-reads v l =
+    subst (Reads (write v)) (value-again v l (shortest (v .initial)) (shortest-start (v .initial)))
+    (complete-reads (write v) (linesOf v)
+    (begins (write v) (linesOf v) [] (record { good = limits-complete v l .good; bytes = sym (append-nil (flatMap written (linesOf v))) }))
+    (limits-complete v l) (l .text))
