@@ -108,13 +108,13 @@ pub rows-refused : {s : List ℕ} {q : Refusal} {c : Checked Input} {v : Verdict
 rows-refused e v k = record { verdict = rw e v; rows = λ x w. apart e w; none = λ _ _. k }
 
 -- its answer where all lines are read into rows in which nothing was stored
-module _ {s : List ℕ} {c : Checked Input} {n i : ℕ} {o : Option ℕ} {es : List Name} {count k j : ℕ} {ats lens highs lows : List ℕ} {before steps : TransitionRows}
+module _ {s : List ℕ} {c : Checked Input} {n i : ℕ} {es : List Name} {count k j : ℕ} {ats lens highs lows : List ℕ} {before steps : TransitionRows}
     {unread machines : MachineRows} where
-  pub rows-passed : (ts : List Named) (ms : List Machine) → startOf o ≡ i → PackedNames es count lens highs lows → ats ≡ row 64 0 (spots (namesFrom (lineTwo s)) es)
+  pub rows-passed : (o : Option ℕ) (ts : List Named) (ms : List Machine) → startOf o ≡ i → PackedNames es count lens highs lows → ats ≡ row 64 0 (spots (namesFrom (lineTwo s)) es)
       → before ≡ noSteps → unread ≡ noMachines → c ≡ passed (valueOf (lines n o es ts ms)) → k ≡ length ts → steps ≡ withSteps es before ts → j ≡ length ms
       → machines ≡ withMachines n unread ms → AnswersRows s c Passed (counts n i count k j) (joined (counts n i count k j) ats lens steps machines)
   unfolding verdictRefusal
-  rows-passed ts ms z r a f g w p q x u =
+  rows-passed o ts ms z r a f g w p q x u =
       record {
         verdict = rw w;
         rows = λ y e. rw (a, ← z, r .counted, r .lengths, p, q, f, x, u, g) (sym (tabled-value s n o es ts ms) ∙ ap (tablesOf s) (passed-same (sym w ∙ e)));

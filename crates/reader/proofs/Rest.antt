@@ -5,6 +5,7 @@ use mathlib.Core.Path.{_≡_, refl, sym}
 use mathlib.Core.Logic.{_⊎_, inl, inr}
 use mathlib.Core.Bool.{Bool, true, false, cond, _&&_}
 use mathlib.Core.List.{List, [], _∷_, _++_}
+use mathlib.Core.Option.{none}
 use lib.Dec.{leb}
 use borrow.Author.Tests.{le-leb, lt-leb}
 use lib.ListN.{length}
@@ -96,8 +97,8 @@ line-moves ls = moves-written (lineAfter ls) written (Fits ls) (line-fits ls) (�
 
 pub step-moves : (s : List ℕ) (at : ℕ) {l : Line} {next : ℕ} → stepLine s at ≡ got l next → (at < next) × (next ≤ length s)
 unfolding lineAfter exists isMachineLine
-step-moves s at {l} {next} g = line-moves (states 0 ∷ events [] ∷ []) .on s at l next (rw g)
+step-moves s at {l} {next} g = line-moves (states 0 none ∷ events [] ∷ []) .on s at l next (rw g)
 
 pub machine-moves : (s : List ℕ) (at : ℕ) {l : Line} {next : ℕ} → machineLine s at ≡ got l next → (at < next) × (next ≤ length s)
 unfolding lineAfter exists isMachineLine
-machine-moves s at {l} {next} g = line-moves (states 0 ∷ events [] ∷ machine [] ∷ []) .on s at l next g
+machine-moves s at {l} {next} g = line-moves (states 0 none ∷ events [] ∷ machine [] ∷ []) .on s at l next g

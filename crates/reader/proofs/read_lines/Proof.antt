@@ -67,7 +67,7 @@ returns-3 c = λ o es x ats z d a r.
     let t = steps-found (stepped m .before .k .given .1) (stepped m .before .before .before .read-transitions .ensures .1 o es x d r) in
     let u = machines-found (c .before .before .count .given .1) (m .read-machines .ensures o es (t .steps) x (omega (arith, t .counted)) (t .last) (t .rest)) in
     rw (c .all-counts .ensures)
-    (rows-passed (t .steps) (u .machines) z (d .rows) a (p .0) (p .1) (u .whole) (t .counted) (t .rows) (u .counted) (u .rows))
+    (rows-passed o (t .steps) (u .machines) z (d .rows) a (p .0) (p .1) (u .whole) (t .counted) (t .rows) (u .counted) (u .rows))
 
 pub read-lines-spec : {M : Type 1} → statement M
 read-lines-spec =
