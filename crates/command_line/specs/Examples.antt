@@ -9,8 +9,8 @@ use Rattle.model.specs.TransitionSystem.{leads, declared, transitionRefusal, tr
 use Rattle.model.specs.Product.{moveFrom, both, oneMore, inAlphabet, effective, fire, fireAll, productStep, blocker, runFrom}
 use Rattle.model.specs.Machine.{placeIn, places, crosses, move, duplicateState, unplacedState, transitionsOf, enters, allOrNone, uniform, nonuniformEvent, ineffectiveEvent, inPre, ready, common, excited, openState, openEvent, closureRefusal, machineRefusal, machinesRefusal, coverRefusal}
 use Rattle.model.specs.Bytes.{bytes, isDigit, isLetter, isNameByte, isFigure, isName, digits, numeral, numeralUpTo}
-use Rattle.model.specs.Form.{written, isMachineLine, isStepLine, statesLine, spacedName, eventsLine, stepLine, spacedFigure, place, machineLine, lineAfter}
-use Rattle.model.specs.Text.{eventNumber, valueOf, distinct, inLimit, isDeclared, ended, lineThen, linesFrom, read, nameAt}
+use Rattle.model.specs.Form.{isMachineLine, isStepLine, startGiven, statesLine, spacedName, eventsLine, stepLine, spacedFigure, place, machineLine, lineAfter}
+use Rattle.model.specs.Text.{eventNumber, valueOf, distinct, inLimit, isDeclared, ended, lineThen, linesFrom, read, lineTwo, nameAt}
 use Rattle.model.specs.Sheet.{addMove, movesBelow, sheetLine, sheetLines, moveBytes, writtenMove, writtenLine, writtenCount, writtenSheet, boardOf, sheet, countForm, moveForm, headForm, lineForm}
 use Rattle.model.specs.Board.{isGoodMove, addName, addNames, namesOn, isGoodLine, machineThen, machinesFrom, countThen, readSheet, moveOn, startPlaces, splitNames, runNames}
 use Rattle.model.specs.Printed.{printedBy, fitting, spaced, printedCheck, nameLine, printedName, ranWord, placesWord, ranLine, printedRun, printedSheet, printedBoard}
@@ -34,9 +34,9 @@ pub answers-on-y : AnswersOnY (bytes (Y ++ Y0 ++ Y1))
 unfolding exists every first index count satisfying isSome isEmpty numbers elem lowest orElse flatMap flatten leads declared transitionRefusal transitionsRefusal
     unusedEvent exits withTarget grown reached unreachableState systemRefusal moveFrom both oneMore inAlphabet effective fire fireAll productStep blocker runFrom placeIn
     places crosses move duplicateState unplacedState transitionsOf enters allOrNone uniform nonuniformEvent ineffectiveEvent inPre ready common excited openState
-    openEvent closureRefusal machineRefusal machinesRefusal coverRefusal isDigit isLetter isNameByte isFigure isName digits numeral numeralUpTo written isMachineLine
-    isStepLine statesLine spacedName eventsLine stepLine spacedFigure place machineLine lineAfter eventNumber valueOf distinct inLimit isDeclared ended lineThen
-    linesFrom read nameAt addMove movesBelow sheetLine sheetLines moveBytes writtenMove writtenLine writtenCount writtenSheet boardOf sheet printedBy fitting spaced printedCheck nameLine
+    openEvent closureRefusal machineRefusal machinesRefusal coverRefusal isDigit isLetter isNameByte isFigure isName digits numeral numeralUpTo isMachineLine
+    isStepLine startGiven statesLine spacedName eventsLine stepLine spacedFigure place machineLine lineAfter eventNumber valueOf distinct inLimit isDeclared ended lineThen
+    linesFrom read lineTwo nameAt addMove movesBelow sheetLine sheetLines moveBytes writtenMove writtenLine writtenCount writtenSheet boardOf sheet printedBy fitting spaced printedCheck nameLine
     printedName ranWord placesWord ranLine printedRun asFarAs7 asFarAs10 asFarAs12 name runEvents printed writtenAnswer writtenRefusal serviceSaid isNumeral
     isNameWord numberSaid eventSaid sizeSaid oneEventSaid before eventsSaid namesOf answerBy answerTo
 answers-on-y = record { no-word = refl; short = refl; named = refl; ran = refl; two-names = refl; capitals = refl }

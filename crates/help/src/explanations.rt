@@ -24,8 +24,8 @@ fn explain_text(refusal: usize, first: &[u8], second: &[u8]) {
             second,
         ),
         3 => put_filled(
-            b"stranger: line % names a state not below the count, an event not on line 2,\n\
-              or one event twice.\n\
+            b"stranger: line % names a state not below the count (on line 1 the start), an\n\
+              event not on line 2, or one event twice.\n\
               Declare the event once on line 2, or correct the state or event on line %.\n",
             first,
             second,
@@ -56,7 +56,7 @@ fn explain_plan(refusal: usize, first: &[u8], second: &[u8]) {
             second,
         ),
         7 => put_filled(
-            b"unreached: no steps lead from state 0 to state %.\n\
+            b"unreached: no steps lead from the start to state %.\n\
               Add the step that leads there, or take state % out and number the others anew.\n",
             first,
             second,

@@ -96,7 +96,8 @@ pub fn put_text_form() {
         STDOUT_FILENO,
         b"A text is a plan and its split, in lines of this order:\n\
           \n\
-          \x20 (states 4)                 how many states: 0 to 3, and 0 is the start\n\
+          \x20 (states 4)                 how many states: 0 to 3, and 0 is the start, unless\n\
+          \x20                            the line gives another: (states 4 start 3)\n\
           \x20 (events ready brake home)  the events by name, from 0 on; (events) if none\n\
           \x20 (step 0 ready 1)           from-state, event, to-state; none or more lines\n\
           \x20 (machine (0 2) (1 3))      its places with their states; one or more lines\n\

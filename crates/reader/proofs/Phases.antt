@@ -3,7 +3,7 @@ use Prim.Native.Nat.{ℕ, suc, _+_, _<_, _≤_}
 use native.Mathlib.Omega.{arith}
 use mathlib.Core.Path.{_≡_, refl, ap, sym, _∙_, subst}
 use mathlib.Core.Logic.{_⊎_, inl, inr}
-use mathlib.Core.Bool.{Bool, true, false, not, and-false}
+use mathlib.Core.Bool.{Bool, true, false, not, _&&_, and-false}
 use mathlib.Core.List.{List, [], _∷_, _++_, map, append-assoc, append-nil}
 use mathlib.Core.Option.{Option}
 use lib.Dec.{T, leb, ltb}
@@ -72,26 +72,18 @@ module _ (s : List ℕ) where
 
     -- the text is short enough
     module _ (h : length s ≤ 32768) where
-      pub states-none : n < 1 → read s ≡ refused (refuse 2 1 0)
+      pub states-limit : (leb 1 n && leb n 256) ≡ false → read s ≡ refused (refuse 2 1 0)
       unfolding lineAfter inLimit
-      states-none i = rest-limit (rest-start s h) (g .read) (rw (lt-leb 1 n i))
+      states-limit w = rest-limit (rest-start s h) (g .read) w
 
-      pub states-many : 256 < n → read s ≡ refused (refuse 2 1 0)
-      unfolding lineAfter inLimit
-      states-many i = rest-limit (rest-start s h) (g .read) (rw (lt-leb n 256 i, and-false))
-
-      module _ (i : 1 ≤ n) (j : n ≤ 256) where
-        states-within : inLimit [] (states n (g .start)) ≡ true
-        unfolding inLimit
-        states-within = rw (le-leb 1 n i, le-leb n 256 j)
-
+      module _ (w : (leb 1 n && leb n 256) ≡ true) where
         pub start-undeclared : n ≤ k → read s ≡ refused (refuse 3 1 0)
-        unfolding lineAfter isDeclared
-        start-undeclared u = rest-undeclared (rest-start s h) (g .read) states-within (lt-leb (suc (startOf (g .start))) n (omega (arith, g .initial)))
+        unfolding lineAfter inLimit isDeclared
+        start-undeclared u = rest-undeclared (rest-start s h) (g .read) w (lt-leb (suc (startOf (g .start))) n (omega (arith, g .initial)))
 
         pub states-more : k < n → Rest s (states n (g .start) ∷ []) next (read s)
-        unfolding lineAfter isDeclared
-        states-more u = rest-more (rest-start s h) (g .read) states-within (le-leb (suc (startOf (g .start))) n (omega (arith, g .initial)))
+        unfolding lineAfter inLimit isDeclared
+        states-more u = rest-more (rest-start s h) (g .read) w (le-leb (suc (startOf (g .start))) n (omega (arith, g .initial)))
 
 -- ---- the events
 

@@ -1,6 +1,8 @@
 // The first two lines of a text: the states, and the names of the events.
 ghost use mathlib.Core.Path.{_≡_};
+ghost use mathlib.Core.Bool.{_&&_};
 ghost use Prim.Native.Nat.{_<_};
+ghost use lib.Dec.{leb};
 ghost use Rattle.lines.specs.Lines.{eventRows};
 ghost use Rattle.reader.specs.Sections.{StatesRead, noNames, ReadsEvents, FirstRead};
 use crate::Section;
@@ -23,6 +25,16 @@ enum States {
     },
 }
 
+// So many states are within the limits.
+fn within_states(count: usize) -> bool
+    ensures { λ r. ⌜ r ≡ (leb 1 count && leb count 256) ⌝ }
+{
+    if 1 <= count {
+        return count <= MAX_STATES;
+    }
+    false
+}
+
 // The states of a text, if it and they are within the limits.
 fn declared_states(s: &[u8]) -> States
     ensures { λ r. ⌜ StatesRead (now (s .entry)) r ⌝ }
@@ -33,10 +45,8 @@ fn declared_states(s: &[u8]) -> States
     let StatesLine::Found { count, start, next } = read_states(s, 0) else {
         return States::Refused(Refusal::Malformed { line: 1 }); // 1 misformed
     };
-    if count < 1 {
-        return States::Refused(Refusal::LimitExceeded { line: 1 }); // 2 oversize
-    }
-    if MAX_STATES < count {
+    let within = within_states(count);
+    if !within {
         return States::Refused(Refusal::LimitExceeded { line: 1 }); // 2 oversize
     }
     if count <= start {
