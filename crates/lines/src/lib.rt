@@ -93,7 +93,11 @@ pub fn read_states(s: &[u8], at: usize) -> StatesLine
     let Word::Found { value: _, next: a } = read_literal(s, at, b"(states ") else {
         return StatesLine::Missing;
     };
-    let Word::Found { value: count, next: b } = read_figure(s, a) else {
+    let Word::Found {
+        value: count,
+        next: b,
+    } = read_figure(s, a)
+    else {
         return StatesLine::Missing;
     };
     let given = read_start(s, b);

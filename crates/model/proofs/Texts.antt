@@ -14,7 +14,7 @@ use Rattle.model.specs.TransitionSystem.{Transition}
 use Rattle.model.specs.Machine.{Machine}
 use Rattle.model.specs.Bytes.{Name}
 use Rattle.model.specs.Form.{Line, states, events, step, machine, writtenStart, startOf, written, isMachineLine}
-use Rattle.model.specs.Text.{Input, valueOf, shortest, linesWith, linesOf, write, Limits}
+use Rattle.model.specs.Text.{Input, valueOf, shortest, linesWith, write, Limits}
 use Rattle.model.specs.Table.{Begins, Fine, Reads}
 use Rattle.model.proofs.Laws.{dec}
 use Rattle.model.proofs.Counting.{count-some, count-none}
@@ -92,7 +92,7 @@ pub record ValueLines (s : List ℕ) (v : Input) (ls : List Line) : Type 0 where
   pub limits : Limits v
 
 pub value-lines : (s : List ℕ) (v : Input) (r : Reads s v) → ValueLines s v (r .lines)
-unfolding write linesOf
+unfolding write
 value-lines s v r = subst (λ (x : Input). ValueLines s x (r .lines)) (sym is) (record {
   start = w .start;
   initial = refl;
@@ -154,8 +154,7 @@ line-of s v r k t a =
 
 -- ---- every value within the limits is read from the text that writes it
 
-limits-complete : (v : Input) → Limits v → Complete (linesOf v)
-unfolding linesOf
+limits-complete : (v : Input) → Limits v → Complete (linesWith (shortest (v .initial)) v)
 limits-complete v l =
     subst
     (λ (k : List Line). Complete k)
@@ -164,9 +163,9 @@ limits-complete v l =
     (plain-limits v l (shortest (v .initial)) (shortest-start (v .initial))) (l .machines-least))
 
 pub write-reads : (v : Input) → Limits v → Reads (write v) v
-unfolding write linesOf
+unfolding write
 write-reads v l =
+    let ls = linesWith (shortest (v .initial)) v in
     subst (Reads (write v)) (value-again v l (shortest (v .initial)) (shortest-start (v .initial)))
-    (complete-reads (write v) (linesOf v)
-    (begins (write v) (linesOf v) [] (record { good = limits-complete v l .good; bytes = sym (append-nil (flatMap written (linesOf v))) }))
+    (complete-reads (write v) ls (begins (write v) ls [] (record { good = limits-complete v l .good; bytes = sym (append-nil (flatMap written ls)) }))
     (limits-complete v l) (l .text))

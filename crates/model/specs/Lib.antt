@@ -16,4 +16,5 @@ pub mod BoardTable
 pub mod Printed
 pub mod Demands
 pub mod Examples
+pub mod Starts
 pub mod Cases
