@@ -54,9 +54,10 @@ pub mod BoardNames
 pub mod BoardRuns
 pub mod OwnSheets
 pub mod OwnRuns
--- the services and the demands
+-- the services and the demands; TwoForms: what is read does not hang on whether line 1 writes start 0 out
 pub mod Cases
 pub mod Verdicts
+pub mod TwoForms
 pub mod Lending
 pub mod Naming
 pub mod Refusing
