@@ -13,7 +13,7 @@ use Rattle.model.specs.Lists.{At, exists, count}
 use Rattle.model.specs.TransitionSystem.{Transition}
 use Rattle.model.specs.Machine.{Machine}
 use Rattle.model.specs.Bytes.{Name}
-use Rattle.model.specs.Form.{Line, states, events, step, machine, writtenStart, startOf, written, isMachineLine}
+use Rattle.model.specs.Form.{Line, states, step, machine, writtenStart, startOf, written, isMachineLine}
 use Rattle.model.specs.Text.{Input, valueOf, shortest, linesWith, write, Limits}
 use Rattle.model.specs.Table.{Begins, Fine, Reads}
 use Rattle.model.proofs.Laws.{dec}
