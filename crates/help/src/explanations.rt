@@ -57,7 +57,8 @@ fn explain_plan(refusal: usize, first: &[u8], second: &[u8]) {
         ),
         7 => put_filled(
             b"unreached: no steps lead from the start to state %.\n\
-              Add the step that leads there, or take state % out and number the others anew.\n",
+              Add the step that leads there, take state % out and number the others anew, or\n\
+              give another start on line 1.\n",
             first,
             second,
         ),
