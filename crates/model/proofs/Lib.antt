@@ -62,3 +62,4 @@ pub mod Lending
 pub mod Naming
 pub mod Refusing
 pub mod Demands
+pub mod Starts

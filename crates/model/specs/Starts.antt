@@ -1,44 +1,44 @@
 -- Document 02, slip 2, "Start away from the park position": its examples, from the bytes of each text to the answers, in one table, by computation.
--- Held by computing: to be compared with the papers. `StartsAway` is held by proofs/Demands (`starts-away`).
-use Prim.Native.Nat.{ℕ}
+-- Held by computing: to be compared with the papers; `StartsAway` and `RefusedAway` by demand2 and demand3 (proofs/Starts: starts-away, refused-away).
+use Prim.Native.Nat.{ℕ, _<_}
 use Prim.Native.String.{String, _++_}
 use mathlib.Core.Path.{_≡_, refl}
+use mathlib.Core.Logic.{_↔_}
 use mathlib.Core.Bool.{true}
-use mathlib.Core.List.{List, [], _∷_, flatMap, flatten}
-use mathlib.Core.Option.{orElse}
+use mathlib.Core.List.{List, [], _∷_, flatMap, flatten, List·Memᴰ}
+use mathlib.Core.Option.{some, orElse}
 use lib.ListN.{replicate}
 use Rattle.model.specs.Lists.{exists, every, first, index, count, satisfying, isSome, isEmpty, elem, lowest}
-use Rattle.model.specs.Refusal.{passed}
+use Rattle.model.specs.Refusal.{Refusal, refuse, refused, passed}
 use Rattle.model.specs.TransitionSystem.{leads, systemStep, andThen, runs, systemRuns, declared, transitionRefusal, transitionsRefusal, unusedEvent, exits, withTarget, grown, reached, unreachableState, systemRefusal}
 use Rattle.model.specs.Product.{moveFrom, both, oneMore, inAlphabet, effective, fire, fireAll, productStep, blocker, runFrom}
-use Rattle.model.specs.Machine.{placeIn, places, crosses, move, productRuns, duplicateState, unplacedState, transitionsOf, enters, allOrNone, uniform, nonuniformEvent, ineffectiveEvent, inPre, ready, common, excited, openState, openEvent, closureRefusal, machineRefusal, machinesRefusal, coverRefusal, select, suffices, tryDrop, thinBelow, keptMarks}
+use Rattle.model.specs.Machine.{Machine, Decomposition, placeIn, places, crosses, move, productRuns, duplicateState, unplacedState, transitionsOf, enters, allOrNone, uniform, nonuniformEvent, ineffectiveEvent, inPre, ready, common, excited, openState, openEvent, closureRefusal, machineRefusal, machinesRefusal, coverRefusal, select, suffices, tryDrop, thinBelow, keptMarks}
 use Rattle.model.specs.Bytes.{bytes, isDigit, isLetter, isNameByte, isFigure, isName, digits}
 use Rattle.model.specs.Form.{isMachineLine, isStepLine, startGiven, statesLine, spacedName, eventsLine, stepLine, spacedFigure, place, machineLine, lineAfter}
 use Rattle.model.specs.Text.{Input, system, eventNumber, valueOf, distinct, inLimit, isDeclared, ended, lineThen, linesFrom, read, lineTwo, nameAt}
 use Rattle.model.specs.Sheet.{addMove, movesBelow, sheetLine, sheetLines, moveBytes, writtenMove, writtenLine, writtenCount, writtenSheet, boardOf, sheet}
-use Rattle.model.specs.Services.{asFarAs7, asFarAs10, asFarAs12, lend, check, name, blocked, outcomeOf, padded, ranAnswer, runEvents, run, keptOf, thin}
-use Rattle.model.specs.Table.{Passes}
-use Rattle.model.specs.Demands.{OfSystem, Faithful}
-use Rattle.model.specs.Examples.{Writes, Refuses, Runs, Keeps}
+use Rattle.model.specs.Services.{asFarAs7, asFarAs10, asFarAs12, lend, check, name, blocked, outcomeOf, padded, ranAnswer, runEvents, run, Kept, keptOf, thin}
+use Rattle.model.specs.Region.{Walk, IsTransitionSystem, IsMachine, Effective, ExcitationClosed}
+use Rattle.model.specs.Table.{Refused, Passes}
+use Rattle.model.specs.Demands.{Derived, Sheet, OfSystem, SystemRuns, ProductRuns, Answers, Thinned, Faithful, Differ, OwnSheet}
+use Rattle.model.specs.Examples.{Y0, Y1, Writes, Refuses, Runs, Keeps}
 
--- the plan Y from line 2 on, and its sheet with machines that start in this place
+-- the plan Y from line 2 on, then with its machines; started in state 3; and that without its second machine
+abbrev pub yPlan : String
+yPlan = "(events ready brake home)\n(step 0 ready 1)\n(step 0 brake 2)\n(step 1 brake 3)\n(step 2 ready 3)\n(step 3 home 0)\n"
+
 abbrev pub yRest : String
-yRest = "(events ready brake home)\n(step 0 ready 1)\n(step 0 brake 2)\n(step 1 brake 3)\n(step 2 ready 3)\n(step 3 home 0)\n(machine (0 2) (1 3))\n(machine (0 1) (2 3))\n"
+yRest = yPlan ++ Y0 ++ Y1
 
 abbrev pub yAway : String
 yAway = "(states 4 start 3)\n" ++ yRest
 
-abbrev pub ySheet : String → String
-ySheet p =
-    "(accepted 2)\n(machine 0 (places 2) (start "
-    ++ p
-    ++ ") (move ready 0 1) (move home 1 0))\n(machine 1 (places 2) (start "
-    ++ p
-    ++ ") (move brake 0 1) (move home 1 0))\n"
+abbrev pub yAlone : String
+yAlone = "(states 4 start 3)\n" ++ yPlan ++ Y0
 
--- Y as a value, with this start
-abbrev pub yInput : ℕ → Input
-yInput k =
+-- Y as a value, with this start and these machines
+abbrev pub yInput : ℕ → Decomposition → Input
+yInput k ms =
     record {
       states = 4;
       initial = k;
@@ -50,14 +50,31 @@ yInput k =
           ∷ record { source = 2; event = 0; target = 3 }
           ∷ record { source = 3; event = 2; target = 0 }
           ∷ [];
-      machines = record { places = (0 ∷ 2 ∷ []) ∷ (1 ∷ 3 ∷ []) ∷ [] } ∷ record { places = (0 ∷ 1 ∷ []) ∷ (2 ∷ 3 ∷ []) ∷ [] } ∷ [];
+      machines = ms;
     }
+
+abbrev pub y0 : Machine
+y0 = record { places = (0 ∷ 2 ∷ []) ∷ (1 ∷ 3 ∷ []) ∷ [] }
+
+abbrev pub y1 : Machine
+y1 = record { places = (0 ∷ 1 ∷ []) ∷ (2 ∷ 3 ∷ []) ∷ [] }
+
+-- its sheet, with machines that start in this place
+abbrev pub ySheet : String → String
+ySheet p =
+    "(accepted 2)\n(machine 0 (places 2) (start "
+    ++ p
+    ++ ") (move ready 0 1) (move home 1 0))\n(machine 1 (places 2) (start "
+    ++ p
+    ++ ") (move brake 0 1) (move home 1 0))\n"
 
 pub record Starts : Type 0 where
   -- three texts, two values
-  pub short : asFarAs12 (bytes ("(states 4)\n" ++ yRest)) ≡ passed (yInput 0)
-  pub long : asFarAs12 (bytes ("(states 4 start 0)\n" ++ yRest)) ≡ passed (yInput 0)
-  pub away : asFarAs12 (bytes yAway) ≡ passed (yInput 3)
+  pub short : asFarAs12 (bytes ("(states 4)\n" ++ yRest)) ≡ passed (yInput 0 (y0 ∷ y1 ∷ []))
+  pub long : asFarAs12 (bytes ("(states 4 start 0)\n" ++ yRest)) ≡ passed (yInput 0 (y0 ∷ y1 ∷ []))
+  pub away : asFarAs12 (bytes yAway) ≡ passed (yInput 3 (y0 ∷ y1 ∷ []))
+  pub alone : asFarAs10 (bytes yAlone) ≡ passed (yInput 3 (y0 ∷ []))
+  pub alone-refused : asFarAs12 (bytes yAlone) ≡ refused (refuse 11 1 0)
   -- "Y with start 3 prints `(start 1)` on both lines."
   pub y-start-3 : Writes yAway (ySheet "1")
   pub y-run : Runs yAway (2 ∷ 0 ∷ 2 ∷ []) (blocked 2 1) (1 ∷ replicate 15 0)
@@ -72,10 +89,29 @@ pub record Starts : Type 0 where
   pub four-digits : Refuses ("(states 4 start 1000)\n" ++ yRest) (record { number = 1; detail = 1; second = 0 })
   pub no-figure : Refuses ("(states 4 start )\n" ++ yRest) (record { number = 1; detail = 1; second = 0 })
 
--- The demands speak of plans that start elsewhere than in state 0: Y with start 3 passes, and plan and machines run equal lists from there.
-pub record StartsAway : Type 0 where
-  pub passes : Passes 12 (bytes yAway) (yInput 3)
-  pub faithful : (es : List ℕ) → OfSystem (system (yInput 3)) es → Faithful (system (yInput 3)) (yInput 3 .machines) es
+-- The demands speak of plans that start elsewhere than in state 0. What they say of Y with start 3, whole:
+pub record StartsAway (s : List ℕ) (v : Input) : Type 0 where
+  pub initial : v .initial ≡ 3
+  pub passes : Passes 12 s v
+  pub transition-system : IsTransitionSystem (system v)
+  pub runs : (es : List ℕ) (u : ℕ) → (systemRuns (system v) es ≡ some u) ↔ Walk (system v) 3 es u
+  pub machines : Derived (system v) (v .machines)
+  pub closure : (e : ℕ) → e < 3 → Effective (system v) (v .machines) e × ExcitationClosed (system v) (v .machines) e
+  pub shown : Sheet v
+  pub lists : (k : Kept) × (thin s ≡ passed k) × Thinned (system v) (v .machines) k
+      × ((es : List ℕ) → OfSystem (system v) es
+      → Faithful (system v) (v .machines) es × Faithful (system v) (select (k .marks) (v .machines)) es × Answers (system v) (v .machines) es (run s es))
+  pub boards : OwnSheet s v
+
+-- and of the same without its second machine, which 11 refuses
+pub record RefusedAway (s : List ℕ) (v : Input) : Type 0 where
+  pub initial : v .initial ≡ 3
+  pub passes : Passes 10 s v
+  pub refused-open : Refused 12 s (refuse 11 1 0)
+  pub differ : Differ (system v) (v .machines)
+  pub converse : ((m : Machine) → List·Memᴰ m (v .machines) → IsMachine (system v) m)
+      → ((es : List ℕ) → OfSystem (system v) es → SystemRuns (system v) es ↔ ProductRuns (system v) (v .machines) es)
+      → (r : Refusal) → Refused 12 s r → r .number ≡ 8
 
 pub starts : Starts
 unfolding Writes Refuses Runs Keeps exists every first index count satisfying isSome isEmpty elem lowest orElse flatten flatMap leads systemStep
@@ -91,6 +127,8 @@ starts =
       short = refl;
       long = refl;
       away = refl;
+      alone = refl;
+      alone-refused = refl;
       y-start-3 = refl;
       y-run = refl;
       y-name = refl;

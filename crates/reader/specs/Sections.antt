@@ -12,7 +12,7 @@ use Rattle.model.specs.Cases.{tabled}
 use Rattle.model.specs.Machine.{Machine}
 use Rattle.model.specs.Bytes.{Name}
 use Rattle.model.specs.Reading.{fail, got}
-use Rattle.model.specs.Form.{Line, states, step, startOf, stepLine}
+use Rattle.model.specs.Form.{Line, states, step, startOf, statesLine, stepLine}
 use Rattle.model.specs.Text.{Input, linesFrom, eventNumber, valueOf, distinct, read, lineTwo}
 use Rattle.model.proofs.Values.{Named, lines}
 use Rattle.rows.specs.Rows.{row, placeRow}
@@ -95,6 +95,7 @@ pub record StatesFound (s : List ℕ) (n k next : ℕ) : Type 0 where
   pub few : n ≤ 256
   pub start : Option ℕ
   pub initial : startOf start ≡ k
+  pub line : statesLine s 0 ≡ got (states n start) next
   pub ends : next ≡ lineTwo s
   pub rest : Rest s (states n start ∷ []) next (read s)
 

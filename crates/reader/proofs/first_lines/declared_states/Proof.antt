@@ -79,6 +79,7 @@ returns-5 c =
       few = few (c .before);
       start = line d .start;
       initial = line d .initial;
+      line = line d .read;
       ends = states-next _ (line d);
       rest = states-more _ (line d) (short d) (within (c .before)) (c .if3 .left);
     }
