@@ -6,6 +6,7 @@ use answer::Told;
 use call::{Call, Task};
 use program::Program;
 use report::Report;
+use starts::Start;
 use std::sync::mpsc::{sync_channel, Receiver};
 use std::sync::Mutex;
 use std::{env, panic, process, thread};
@@ -35,6 +36,7 @@ mod redundant;
 mod report;
 #[path = "../../include/split.rs"]
 mod split;
+mod starts;
 mod subject;
 mod telling;
 mod tiny;
@@ -45,7 +47,7 @@ mod words;
 mod written;
 
 /// How many requests of document 02 are in force.
-const RULES: reference::Rules = reference::Rules(1);
+const RULES: reference::Rules = reference::Rules(2);
 
 /// A process for each call is what takes the time, and there is a wait in each.
 const WORKERS: usize = 4;
@@ -100,6 +102,7 @@ fn compare(task: &Task, program: &Program, watchdog: &Watchdog, report: &Report)
         return compare_on_sheet(task, program, watchdog, report);
     }
     let text = task.text();
+    let start = Start::of(&text);
     let (mut printed, mut split, mut class) = (Printed::default(), None, 0);
     let (mut sheet, mut runs) = (Vec::new(), Vec::new());
     for (k, call) in task.calls.iter().enumerate() {
@@ -112,6 +115,9 @@ fn compare(task: &Task, program: &Program, watchdog: &Watchdog, report: &Report)
         }
         if let Some(split) = &split {
             report.telling(&split.of(&call.numbers(&text), &told));
+        }
+        if let Some(start) = &start {
+            report.telling(&start.telling(&expected));
         }
         printed.kept = printed.kept.or_else(|| answer::kept(&stdout));
         if call.service() == "run" {

@@ -1,5 +1,6 @@
 //! Lines with about as many items as they may have, and about as many lines, with other faults beside.
 use crate::dice::Dice;
+use crate::draft::with;
 
 /// About as many events, places or machines as may be, then items that also break 3, 1 or both.
 fn crowds() -> Vec<String> {
@@ -24,7 +25,8 @@ fn crowds() -> Vec<String> {
     texts
 }
 
-/// A line with about as many items as it may have, by chance with one that breaks 3 and one that breaks 1.
+/// A line with about as many items as it may have, by chance with one that breaks 3 and one that breaks 1, and behind
+/// either form of line 1.
 pub fn crowd(dice: &mut Dice) -> String {
     let n = 63 + dice.below(4);
     let names = (0..n).map(|k| format!(" e{k}")).collect();
@@ -37,6 +39,7 @@ pub fn crowd(dice: &mut Dice) -> String {
             items[dice.below(n)] = other.to_string();
         }
     }
+    let hole = if dice.once_in(2) { with(hole, "2", "2 start 1") } else { hole.to_string() };
     hole.replace('#', &items.concat())
 }
 

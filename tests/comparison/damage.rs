@@ -1,6 +1,6 @@
 //! Texts in which a byte, a line or the end is not what it was.
 use crate::dice::Dice;
-use crate::draft::{TINY, Y};
+use crate::draft::{y_from, TINY, Y};
 use crate::products::product;
 use crate::tiny::{loose, tiny};
 
@@ -49,7 +49,7 @@ pub fn spoilt(dice: &mut Dice, mut text: Vec<u8>) -> Vec<u8> {
 /// A text that would be accepted, or a small one, with one thing wrong.
 pub fn damaged(dice: &mut Dice) -> Vec<u8> {
     let text = match dice.below(5) {
-        0 => Y.to_string(),
+        0 => dice.one(&[Y.to_string(), y_from(3)]),
         1 => tiny(dice).text(),
         2 => loose(dice).text(),
         3 => TINY.to_string(),

@@ -5,7 +5,7 @@ use crate::products::product;
 
 type Defect = fn(&mut Dice, &mut Draft);
 
-pub const DEFECTS: [Defect; 13] = [
+pub const DEFECTS: [Defect; 15] = [
     state_moved,
     state_doubled,
     state_missing,
@@ -15,6 +15,8 @@ pub const DEFECTS: [Defect; 13] = [
     step_standing,
     event_idle,
     state_unreached,
+    start_moved,
+    start_strange,
     places_merged,
     machine_dropped,
     target_changed,
@@ -99,7 +101,7 @@ fn event_idle(dice: &mut Dice, draft: &mut Draft) {
     dice.insert(&mut draft.events, "idle".to_string());
 }
 
-/// A state more, in a place of every machine, with a step to one of the others.
+/// A state more, in a place of every machine, with a step to one of the others. It is the highest or state 0.
 fn state_unreached(dice: &mut Dice, draft: &mut Draft) {
     let state = draft.states;
     let to = dice.below(state);
@@ -109,6 +111,22 @@ fn state_unreached(dice: &mut Dice, draft: &mut Draft) {
         dice.insert(&mut machine[at], state);
     }
     insert_step(dice, draft, state, to);
+    if dice.once_in(2) {
+        draft.exchange(0, state);
+    }
+}
+
+/// The others need not be reached from there.
+fn start_moved(dice: &mut Dice, draft: &mut Draft) {
+    draft.start = Some(dice.below(draft.states));
+}
+
+/// No state, and now and then the count is over its bound too.
+fn start_strange(dice: &mut Dice, draft: &mut Draft) {
+    if dice.once_in(2) {
+        draft.states = dice.one(&[257, 300]);
+    }
+    draft.start = Some(dice.one(&[draft.states, draft.states + 1, 300, 999]));
 }
 
 fn places_merged(dice: &mut Dice, draft: &mut Draft) {

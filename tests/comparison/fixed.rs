@@ -1,7 +1,7 @@
 //! The calls that are the same at every run: examples, bounds, broken lines, input in pieces.
 use crate::call::{call, lending, run, Call, Task};
 use crate::dice::Dice;
-use crate::draft::{alike, q_with_third, y_with_first_again, ONE_STATE, Q, TINY, Y};
+use crate::draft::{alike, q_with_third, y_from, y_with_first_again, ONE_STATE, Q, TINY, Y};
 use crate::subject::Subject;
 use crate::{crowds, forms, limits, products, redundant, wide, written};
 use reference::TEXT_BOUND;
@@ -88,6 +88,7 @@ fn pieces() -> Vec<Task> {
     let mut tasks: Vec<Task> = [0, 1, 11, 80, Y.len() - 1, Y.len()].map(|end| in_pieces(Y, &[end], "")).into();
     tasks.extend([&[1, 2][..], &[50, 100, 150], &[0, 0, Y.len()]].map(|ends| in_pieces(Y, ends, "run brake 0 2 2")));
     tasks.extend(["steps", "name 2", "thin"].map(|line| in_pieces(Y, &[60], line)));
+    tasks.extend([9, 15, 17].map(|end| in_pieces(&y_from(3), &[end], "run home")));
     tasks.push(in_pieces(ONE_STATE, &each, "check"));
     tasks.extend([1, 4096, 16_384, TEXT_BOUND - 1, TEXT_BOUND].map(|end| in_pieces(&largest, &[end], "check")));
     tasks.extend([1, TEXT_BOUND - 1, TEXT_BOUND].map(|end| in_pieces(&over, &[end], "steps")));
@@ -181,7 +182,8 @@ pub fn all() -> Vec<Task> {
     let limits = limits::all(&mut dice);
     let numbered = (0..64).map(|k| format!("e{k}")).collect();
     let named = [alike(), numbered].map(|names: Vec<String>| forms::with_names(names.clone(), &names));
-    for text in [Y.to_string(), Q.to_string(), q_with_third(), ONE_STATE.to_string()].into_iter().chain(named) {
+    let texts = [Y.to_string(), y_from(3), Q.to_string(), q_with_third(), ONE_STATE.to_string()];
+    for text in texts.into_iter().chain(named) {
         let subject = Subject::new(text);
         tasks.push(Task::new("example", subject.text.clone(), each(&subject)));
     }
@@ -194,7 +196,8 @@ pub fn all() -> Vec<Task> {
     }
     tasks.extend(limits.iter().map(|task| with_long_walks(&mut dice, task)));
     tasks.extend(limits);
-    tasks.extend([Y.to_string(), q_with_third(), y_with_first_again()].map(|text| all_lists(text, 4)));
+    tasks.extend([Y.to_string(), q_with_third()].map(|text| all_lists(text, 4)));
+    tasks.extend([y_from(3), y_with_first_again()].map(|text| all_lists(text, 3)));
     tasks.extend(without_events());
     tasks.extend(long_lists(&mut dice));
     tasks.extend(pieces());

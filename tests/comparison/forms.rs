@@ -1,11 +1,15 @@
 //! Every way to break the form of a line, and what is easily read wrongly. Most of these texts end at 1, 2 or 3.
-use crate::draft::{alike, with, Draft, TINY, Y};
+use crate::draft::{alike, with, y_from, Draft, TINY, Y};
 
 /// Figures at and over every bound, in every position that takes one.
 fn figures() -> Vec<String> {
     let figures = "0 1 9 10 11 99 100 101 255 256 257 511 512 999 1000 4294967296 00 01 010 000 0x1 -1 +1 / : 1/ 1: a";
     let holes = [
         "(states #)\n(events)\n(machine (0))\n",
+        "(states # start 0)\n(events)\n(machine (0))\n",
+        "(states # start #)\n(events)\n(machine (0))\n",
+        "(states 11 start #)\n(events)\n(machine (0))\n",
+        "(states 256 start #)\n(events)\n(machine (0))\n",
         "(states 10)\n(events a)\n(step # a 0)\n(machine (0))\n",
         "(states 100)\n(events a)\n(step 0 a #)\n(machine (0))\n",
         "(states 256)\n(events a)\n(step # a #)\n(machine (0))\n",
@@ -20,7 +24,7 @@ fn figures() -> Vec<String> {
 /// Two states, and a step of each used event from the first to the second.
 pub fn with_names(events: Vec<String>, used: &[String]) -> String {
     let steps = used.iter().map(|name| (0, name.clone(), 1)).collect();
-    Draft { states: 2, events, steps, machines: vec![vec![vec![0], vec![1]]] }.text()
+    Draft { states: 2, start: None, events, steps, machines: vec![vec![vec![0], vec![1]]] }.text()
 }
 
 /// Each name found among all, each missing, each declared twice: last, first or next to itself.
@@ -56,7 +60,16 @@ fn ended_by_zero() -> Vec<String> {
 /// than by one byte, then two faults on one line or on two.
 const FOR_STATES: &str = "|()|(states)|(states )|(states 3 4)|(states (3))|(states three)|(State 3)|(states 3\0)|\
     (states 3)\r|(states\t3)|(states 3) |(states 3)(events)|(states 3)\n(states 3)|(events a b-1)\n(states 3)|\
-    \u{feff}(states 3)|(states 0|(states 257 )|(states 0 0)|(states 0)\n|(states 300)\n()";
+    \u{feff}(states 3)|(states 0|(states 257 )|(states 0 0)|(states 0)\n|(states 300)\n()|(states 3 start)|\
+    (states 3 start )|(states 3  start 2)|(states  3 start 2)|(states 3 start  2)|(states 3 start 2 )|(states start 2)|\
+    (states 3 start 2 2)|(states 3 start 2 start 2)|(states 3 Start 2)|(states 3 START 2)|(states 3 stop 2)|\
+    (states 3 star 2)|(states 3 starts 2)|(states 3 start2)|(states 3start 2)|(states 3 2 start)|(start 2 states 3)|\
+    (start 2)|(states 3 start two)|(states 3 start 02)|(states 3 start -1)|(states 3 start 1000)|(states 3 start 2\0)|\
+    (states 3\0start 2)|(states 3\tstart 2)|(states 3 start\t2)|(states 3 (start 2))|(states 3) (start 2)|\
+    (states 3)(start 2)|(states 3)\n(start 2)|(states 3 start 2)\r|(states 3 start 2) |(states 3 start 2)(events)|\
+    (states 3 start 2)\n(states 3)|(states 03 start 2)|(states 1000 start 2)|(states 3 start 0)|(states 3 start 2)|\
+    (states 3 start 3)|(states 3 start 3|(states 3 start 3 )|(states 3 start 3)\n()|(states 0 start 0)|\
+    (states 0 start 00)|(states 257 start 256)|(states 257 start 300)|(states 257 start 300|(states 257 start 1000)";
 const FOR_EVENTS: &str = "|()|(events )|(event a)|(events a\tb)|(events a  b)|(events a,b)|(events A)|(events aB)|\
     (events 1a)|(events -a)|(events a_b)|(events (a))|(events a\0)|(events a)\r|(events a) (events b)|\
     (events a)\n(events b)|(events a a|(events a a )|(events a a B)|(events a b a)\n(step 0 a)|(events)\n(step 0 a 0)";
@@ -105,6 +118,13 @@ pub fn nearby(text: &[u8]) -> Vec<Vec<u8>> {
     texts
 }
 
+/// The same where the start stands, in a text that another start changes.
+fn near_start() -> Vec<Vec<u8>> {
+    let text = y_from(3);
+    let (before, after) = text.split_once(" start 3").expect("a start");
+    nearby(b" start 3").iter().map(|said| [before.as_bytes(), said, after.as_bytes()].concat()).collect()
+}
+
 /// Y up to each of its lines.
 fn beginnings() -> Vec<String> {
     let ends = Y.match_indices('\n').map(|(at, _)| at + 1);
@@ -113,5 +133,5 @@ fn beginnings() -> Vec<String> {
 
 pub fn all() -> Vec<Vec<u8>> {
     let whole = [beginnings(), figures(), names(), ended_by_zero(), forms(), doubled()].concat();
-    whole.into_iter().map(String::into_bytes).chain(nearby(TINY.as_bytes())).collect()
+    whole.into_iter().map(String::into_bytes).chain(nearby(TINY.as_bytes())).chain(near_start()).collect()
 }

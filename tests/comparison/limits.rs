@@ -23,12 +23,14 @@ fn rename(draft: &mut Draft, event: usize, name: String) {
     draft.steps.iter_mut().filter(|s| s.1 == old).for_each(|s| s.1 = name.clone());
 }
 
-/// 256 states and 1,024 steps with short names, so that there is room for 16 machines: four, again and again.
+/// 256 states and 1,024 steps with short names, so that there is room for 16 machines: four, again and again. The start
+/// is the last state.
 fn widest(machines: usize) -> Draft {
     let (mut draft, _) = rings(&[4; 4]).drawn(&mut Dice::new(1));
     for (k, name) in ('a'..='p').enumerate() {
         rename(&mut draft, k, name.to_string());
     }
+    draft.exchange(draft.first(), 255);
     draft.machines = draft.machines.into_iter().cycle().take(machines).collect();
     draft
 }
@@ -71,7 +73,9 @@ fn longest_sheet(dice: &mut Dice) -> Draft {
         dice.shuffle(&mut last);
         last.into_iter().chain(inner).map(|state| vec![state]).collect()
     };
-    Draft { states: 64, events, steps, machines: (0..16).map(machine).collect() }
+    let mut draft = Draft { states: 64, start: None, events, steps, machines: (0..16).map(machine).collect() };
+    draft.exchange(0, dice.below(54));
+    draft
 }
 
 /// An accepted text of just this size, by the lengths of its names. Those with many steps make up the most of it, that
@@ -97,7 +101,7 @@ fn full(dice: &mut Dice, size: usize) -> String {
     let events: Vec<String> = (0..64).map(|k| format!("e{k}")).collect();
     let steps = (0..1024).map(|_| (dice.below(256), dice.one(&events), dice.below(256))).collect();
     let places = |m: usize| (0..64).map(|p| [0, 64, 128].map(|k| (p + k + m * 16) % 256).to_vec()).collect();
-    let text = Draft { states: 256, events, steps, machines: (0..16).map(places).collect() }.text();
+    let text = Draft { states: 256, start: Some(255), events, steps, machines: (0..16).map(places).collect() }.text();
     let body = text.strip_suffix("))\n").expect("a machine line");
     let odd = if (size - text.len()) % 2 == 1 { " 10" } else { "" };
     format!("{body}{odd}{}))\n", " 9".repeat((size - text.len() - odd.len()) / 2))

@@ -1,7 +1,9 @@
 //! A plan and its machines by the definitions of document 01 alone, from a text that passes as far as 10, or from a
 //! sheet. Nothing here is shared with the independent program.
 
+#[derive(Default)]
 pub struct Plan {
+    pub start: usize,
     pub names: Vec<String>,
     /// Where each event leads from each state.
     pub next: Vec<Vec<Option<usize>>>,
@@ -33,11 +35,15 @@ fn places(listed: &str, states: usize) -> Vec<usize> {
 impl Plan {
     pub fn of(text: &[u8]) -> Plan {
         let text = String::from_utf8_lossy(text);
-        let mut plan = Plan { names: Vec::new(), next: Vec::new(), places: Vec::new() };
+        let mut plan = Plan::default();
         for line in text.lines() {
             let (head, rest) = line.trim_matches(['(', ')']).split_once(' ').unwrap_or_default();
             match (head, &rest.split(' ').collect::<Vec<_>>()[..]) {
                 ("states", [n]) => plan.next.resize(number(n), Vec::new()),
+                ("states", [n, "start", state]) => {
+                    plan.next.resize(number(n), Vec::new());
+                    plan.start = number(state);
+                }
                 ("events", names) => plan.names = names.iter().map(|name| name.to_string()).collect(),
                 ("step", [from, name, to]) => {
                     let event = plan.names.iter().position(|n| n == name).expect("an event that is declared");
@@ -56,7 +62,7 @@ impl Plan {
     /// The names on the moves of a sheet that is good, in the order in which they come first; no more than these.
     pub fn of_sheet(sheet: &[u8]) -> Plan {
         let sheet = String::from_utf8_lossy(sheet);
-        let mut plan = Plan { names: Vec::new(), next: Vec::new(), places: Vec::new() };
+        let mut plan = Plan::default();
         for name in sheet.split("(move ").skip(1).filter_map(|rest| rest.split(' ').next()) {
             if !plan.names.iter().any(|known| known == name) {
                 plan.names.push(name.to_string());
@@ -77,7 +83,7 @@ impl Plan {
             for (from, event, to) in self.steps().filter(|(from, _, to)| place[*from] != place[*to]) {
                 moves[event] = Some((place[from], place[to]));
             }
-            Machine { start: place[0], moves }
+            Machine { start: place[self.start], moves }
         };
         self.places.iter().map(machine).collect()
     }

@@ -73,14 +73,14 @@ impl Product {
         let mut steps = self.steps(&states);
         dice.shuffle(&mut steps);
         let events = self.events.iter().map(|(name, _)| name.clone()).collect();
-        let mut draft = Draft { states: states.len(), events, steps, machines: Vec::new() };
+        let mut draft = Draft { states: states.len(), start: None, events, steps, machines: Vec::new() };
         let mut sheet = format!("(accepted {})\n", self.machines);
         for m in 0..self.machines {
             let (locals, places) = places_of(dice, &states, m);
             draft.machines.push(places);
             sheet += &self.sheet_line(m, &locals);
         }
-        (draft, sheet)
+        (draft.begun(dice), sheet)
     }
 
     /// `locals` are the machine's own places in the order of the text.

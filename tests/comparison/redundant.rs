@@ -14,7 +14,7 @@ fn without_machines(dice: &mut Dice, states: usize) -> Draft {
     dice.shuffle(&mut ends);
     let events: Vec<String> = (0..ends.len()).map(|k| format!("e{k}")).collect();
     let steps = ends.into_iter().zip(&events).map(|((from, to), event)| (from, event.clone(), to)).collect();
-    Draft { states, events, steps, machines: Vec::new() }
+    Draft { states, start: None, events, steps, machines: Vec::new() }.begun(dice)
 }
 
 /// Up to four places.

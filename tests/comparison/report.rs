@@ -3,9 +3,10 @@ use crate::boards::telling::LABELS as BOARD_LABELS;
 use crate::call::{Call, Task, SERVICES};
 use crate::library::Fault;
 use crate::program::beside;
+use crate::starts::LABELS as START_LABELS;
 use crate::telling::LABELS;
 use std::collections::hash_map::DefaultHasher;
-use std::collections::HashSet;
+use std::collections::{HashMap, HashSet};
 use std::ffi::OsString;
 use std::hash::{Hash, Hasher};
 use std::os::unix::process::ExitStatusExt;
@@ -27,7 +28,7 @@ const DUE: [&[usize]; 7] = [
 ];
 
 fn labels() -> impl Iterator<Item = &'static str> {
-    LABELS.into_iter().chain(BOARD_LABELS)
+    START_LABELS.into_iter().chain(LABELS).chain(BOARD_LABELS)
 }
 
 #[derive(Default)]
@@ -36,7 +37,7 @@ struct Counts {
     /// Of these, how many were asked of the library only.
     unsaid: usize,
     words: usize,
-    telling: [usize; LABELS.len() + BOARD_LABELS.len()],
+    telling: HashMap<&'static str, usize>,
     /// Texts that were walked, by the class of their check.
     walked: [usize; 16],
     pairs: usize,
@@ -68,6 +69,10 @@ fn first_difference(expected: &[u8], given: &[u8]) -> (String, String) {
 }
 
 impl Counts {
+    fn telling(&self, label: &str) -> usize {
+        self.telling.get(label).copied().unwrap_or(0)
+    }
+
     fn differs(&mut self, call: &str, text: &[u8], expected: &str, given: &str) {
         self.differ += 1;
         if self.differ <= SHOWN {
@@ -129,11 +134,9 @@ impl Report {
         }
     }
 
-    pub fn telling(&self, labels: &[&str]) {
+    pub fn telling(&self, labels: &[&'static str]) {
         let mut counts = self.counts();
-        for (count, _) in counts.telling.iter_mut().zip(self::labels()).filter(|(_, label)| labels.contains(label)) {
-            *count += 1;
-        }
+        labels.iter().for_each(|label| *counts.telling.entry(label).or_default() += 1);
     }
 
     /// Each text is walked once.
@@ -169,7 +172,7 @@ impl Report {
         }
         println!("{} of them by the library only, of names that no words say or of one more of a kind", counts.unsaid);
         println!("{} more, of words that are no call of a service", counts.words);
-        counts.telling.iter().zip(labels()).for_each(|(count, label)| println!("{count:>6} {label}"));
+        labels().for_each(|label| println!("{:>6} {label}", counts.telling(label)));
         let [accepted, unheld, open] = [0, 11, 12].map(|class| counts.walked[class]);
         let [texts, pairs] = [accepted + unheld + open, counts.pairs].map(grouped);
         let kinds = format!("{accepted} accepted, {unheld} refused by 11, {open} by 12");
@@ -186,8 +189,8 @@ impl Report {
             let rare = due.iter().find(|class| row[**class] < fewest);
             assert!(rare.is_none(), "too rare: {service} with {}", rare.unwrap());
         }
-        let rare = counts.telling.iter().zip(labels()).find(|(count, _)| **count < fewest);
-        assert!(rare.is_none(), "too rare: {}", rare.unwrap().1);
+        let rare = labels().find(|label| counts.telling(label) < fewest);
+        assert!(rare.is_none(), "too rare: {}", rare.unwrap());
     }
 
     /// The last line; whether nothing differs.

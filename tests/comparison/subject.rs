@@ -8,11 +8,13 @@ use reference::{self, Refusal, Step, TEXT_BOUND};
 /// Too large for any number of the machine; what is left of the second and the third if that goes unnoticed is 0 and 1.
 pub const HUGE: [&str; 3] = ["999999999999999999999999999999", "18446744073709551616", "18446744073709551617"];
 
-/// There are no names if line 2 is not what it should be, and no steps if the text is refused by 1 to 7.
+/// There are no names if line 2 is not what it should be, no start but 0 if the text is refused by 1 to 3, and no steps
+/// if by 1 to 7.
 pub struct Subject {
     pub text: Vec<u8>,
     pub names: Vec<String>,
     pub sheet: Result<Vec<u8>, Refusal>,
+    start: usize,
     steps: Vec<Step>,
 }
 
@@ -21,8 +23,9 @@ impl Subject {
         let text = text.into();
         let names = names(&text);
         let sheet = reference::check(RULES, &text, TEXT_BOUND);
+        let start = reference::read(RULES, &text).map_or(0, |input| input.plan.start);
         let steps = reference::steps(RULES, &text, 1024).unwrap_or_default();
-        Subject { text, names, sheet, steps }
+        Subject { text, names, sheet, start, steps }
     }
 
     // ---- Sizes that are lent --------------------------------------------------------
@@ -95,12 +98,12 @@ impl Subject {
     }
 
     pub fn whole(&self, dice: &mut Dice, size: usize) -> Vec<usize> {
-        self.walk(dice, 0, size).0
+        self.walk(dice, self.start, size).0
     }
 
     /// A walk, an event that has no step where it ends (if there is one), and steps on from there.
     pub fn blocked(&self, dice: &mut Dice, size: usize, after: usize) -> Vec<usize> {
-        let (mut list, at) = self.walk(dice, 0, size);
+        let (mut list, at) = self.walk(dice, self.start, size);
         let runs = |event: usize| self.steps.iter().any(|s| s.from == at && s.event == event);
         let others: Vec<usize> = (0..self.names.len()).filter(|event| !runs(*event)).collect();
         if !others.is_empty() {

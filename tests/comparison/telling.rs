@@ -15,10 +15,22 @@ impl Split {
         Split { plan, machines }
     }
 
+    fn starts(&self) -> Vec<usize> {
+        self.machines.iter().map(|machine| machine.start).collect()
+    }
+
+    /// Where the machines would start if the plan did in state 0.
+    fn places_of_zero(&self) -> Vec<usize> {
+        self.plan.places.iter().map(|place| place[0]).collect()
+    }
+
     /// How many events run, and where the machines stand then.
     fn run(&self, list: &[usize]) -> (usize, Vec<usize>) {
+        self.run_from(self.starts(), list)
+    }
+
+    fn run_from(&self, mut at: Vec<usize>, list: &[usize]) -> (usize, Vec<usize>) {
         let all: Vec<&Machine> = self.machines.iter().collect();
-        let mut at: Vec<usize> = all.iter().map(|machine| machine.start).collect();
         for (ran, event) in list.iter().enumerate() {
             match after(&all, &at, *event) {
                 Some(then) => at = then,
@@ -74,6 +86,9 @@ impl Split {
         let places = |count: usize| self.run(&list[..list.len().min(count)]).1;
         let end = places(list.len());
         let mut found = Vec::new();
+        if self.run(list) != self.run_from(self.places_of_zero(), list) {
+            found.push(NOT_FROM_ZERO);
+        }
         if end != places(0) && end != places(1) {
             found.push(if blocked.is_some() { MOVED_TWICE_AND_BLOCKED } else { MOVED_TWICE });
         }
@@ -107,6 +122,7 @@ impl Split {
 
     pub fn of(&self, numbers: &[usize], told: &Told) -> Vec<&'static str> {
         match told {
+            Told::Sheet(_) if self.starts() != self.places_of_zero() => vec![NOT_OF_ZERO],
             Told::Ran(blocked, _) => self.of_run(numbers, *blocked),
             Told::Kept(kept) => self.of_thin(kept),
             Told::Refused([14, position, _]) if *position > 0 => {
@@ -122,6 +138,8 @@ impl Split {
     }
 }
 
+const NOT_OF_ZERO: &str = "start: other places than those of state 0";
+const NOT_FROM_ZERO: &str = "start: run otherwise than from state 0";
 const MOVED_TWICE: &str = "run to its end, not to the places after no event or one";
 const MOVED_TWICE_AND_BLOCKED: &str = "blocked, not in the places after no event or one";
 const BLOCKED_LATER: &str = "blocked after some events";
@@ -138,7 +156,9 @@ const DROPS_ALL_BUT_ONE: &str = "all machines but one dropped";
 const NOT_UPWARD: &str = "others kept than from the lowest machine up";
 const NOT_BESIDE_ALL: &str = "others kept than those needed beside all";
 
-pub const LABELS: [&str; 15] = [
+pub const LABELS: [&str; 17] = [
+    NOT_OF_ZERO,
+    NOT_FROM_ZERO,
     MOVED_TWICE,
     MOVED_TWICE_AND_BLOCKED,
     BLOCKED_LATER,

@@ -4,7 +4,8 @@ use crate::draft::{alike, Draft};
 use crate::RULES;
 use reference::{self, Refusal, TEXT_BOUND};
 
-/// As a rule a step to each state from a lower one, then some steps at random.
+/// As a rule a step to each state from a lower one, then some steps at random. The start is the state that was lowest,
+/// whatever its number is then, or any.
 fn tiny_plan(dice: &mut Dice) -> Draft {
     let states = 1 + dice.below(4);
     let events: Vec<String> = ["a", "b", "c"][..dice.below(4)].iter().map(|e| e.to_string()).collect();
@@ -16,7 +17,11 @@ fn tiny_plan(dice: &mut Dice) -> Draft {
     dice.shuffle(&mut ends);
     ends.truncate(if events.is_empty() { 0 } else { ends.len() });
     let steps = ends.into_iter().map(|(from, to)| (from, dice.one(&events), to)).collect();
-    Draft { states, events, steps, machines: vec![vec![vec![0]]] }
+    let draft = Draft { states, start: None, events, steps, machines: vec![vec![vec![0]]] };
+    match dice.below(4) {
+        0 => Draft { start: Some(dice.below(states)), ..draft },
+        _ => draft.begun(dice),
+    }
 }
 
 /// Places at random; now and then a state is listed again or not at all.
@@ -68,5 +73,10 @@ pub fn loose(dice: &mut Dice) -> Draft {
     let place = |dice: &mut Dice| (0..1 + dice.below(4)).map(|_| state(dice)).collect();
     let machines = (0..dice.below(4)).map(|_| (0..1 + dice.below(3)).map(|_| place(dice)).collect()).collect();
     let states = if dice.once_in(10) { dice.one(&[0, 257, 300, 999]) } else { n };
-    Draft { states, events: events.clone(), steps, machines }
+    let start = match dice.below(8) {
+        0..=3 => None,
+        4..=6 => Some(state(dice)),
+        _ => Some(dice.one(&[0, n, 256, 300, 999])),
+    };
+    Draft { states, start, events: events.clone(), steps, machines }
 }

@@ -22,7 +22,7 @@ pub enum Walk {
 /// With the machines of these numbers only.
 pub fn walk(plan: &Plan, machines: &[Machine], numbers: &[usize]) -> Walk {
     let some: Vec<&Machine> = numbers.iter().map(|m| &machines[*m]).collect();
-    let start = Pair { state: 0, places: some.iter().map(|m| m.start).collect(), list: Vec::new() };
+    let start = Pair { state: plan.start, places: some.iter().map(|m| m.start).collect(), list: Vec::new() };
     let mut seen = HashSet::from([(start.state, start.places.clone())]);
     let mut open = vec![start];
     while let Some(Pair { state, places, list }) = open.pop() {

@@ -49,7 +49,8 @@ fn missing(dice: &mut Dice, draft: &mut Draft, least: usize) -> String {
 }
 
 fn unreached(dice: &mut Dice, draft: &mut Draft, least: usize) -> String {
-    let state = least + 1 + dice.below(63);
+    let others: Vec<usize> = (least..least + 64).filter(|state| *state != draft.first()).collect();
+    let state = dice.one(&others);
     draft.steps.retain(|s| s.2 != state);
     format!("7 {state} 0")
 }

@@ -132,7 +132,7 @@ const EXPLAINED: [&str; 15] = [
     "standstill: the step on line 70",
     "fork: the step on line 70 has the same state and event as that on line 90",
     "idle event: no step has event 70",
-    "unreached: no steps lead from state 0 to state 70",
+    "unreached: no steps lead from the start to state 70",
     "doubled: machine 70 lists state 90",
     "missing: machine 70 has no place with state 90",
     "uneven: a place of machine 70 is no region: some steps of event 90",

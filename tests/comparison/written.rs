@@ -1,7 +1,7 @@
-//! Texts and calls written by hand, each with its answer: the examples of document 01, its traps, and two faults in one
-//! text.
+//! Texts and calls written by hand, each with its answer: the examples of document 01 and of request 2, traps, and two
+//! faults in one text.
 use crate::call::{call, Task};
-use crate::draft::{lines, q_with_third, with, y_with_first_again, ONE_STATE, Q, Y};
+use crate::draft::{lines, q_with_third, with, y_from, y_with_first_again, ONE_STATE, Q, Y};
 
 pub fn open(kind: &'static str, text: impl Into<Vec<u8>>) -> Task {
     Task::new(kind, text, vec![call("check")])
@@ -19,6 +19,13 @@ pub fn examples() -> Vec<Task> {
     let third = "(accepted 3)|(machine 0 (places 2) (start 0) (move ready 0 1))|\
                  (machine 1 (places 2) (start 0) (move brake 0 1))|\
                  (machine 2 (places 2) (start 0) (move ready 0 1) (move brake 0 1))";
+    let starting = |places: [usize; 2]| {
+        let line = |line: &str, place: usize| line.replace("start 0", &format!("start {place}"));
+        format!("(accepted 2)|{}|{}", line(first, places[0]), line(second, places[1]))
+    };
+    let renumbered = "(accepted 3)|(machine 0 (places 2) (start 1) (move ready 1 0))|\
+                      (machine 1 (places 2) (start 0) (move brake 0 1))|\
+                      (machine 2 (places 2) (start 1) (move ready 1 0) (move brake 1 0))";
     let states = |n: usize| format!("(states {n})\n(events)\n(machine (0))\n");
     let long = "seventeen-letters";
     let examples = [
@@ -38,6 +45,19 @@ pub fn examples() -> Vec<Task> {
         (String::new(), "(refused 1 1 0)".to_string()),
         (with(ONE_STATE, "machine (0)", "machine"), "(refused 1 3 0)".to_string()),
         (with(ONE_STATE, "machine (0)", ""), "(refused 1 3 0)".to_string()),
+        (y_from(0), starting([0, 0])),
+        (y_from(1), starting([1, 0])),
+        (y_from(2), starting([0, 1])),
+        (y_from(3), starting([1, 1])),
+        (y_from(4), "(refused 3 1 0)".to_string()),
+        (with(Y, "4", "4 start 03"), "(refused 1 1 0)".to_string()),
+        (with(ONE_STATE, "1", "1 start 0"), "(accepted 1)|(machine 0 (places 1) (start 0))".to_string()),
+        (with(ONE_STATE, "1", "0 start 0"), "(refused 2 1 0)".to_string()),
+        (with(ONE_STATE, "1", "257 start 300"), "(refused 2 1 0)".to_string()),
+        (with(ONE_STATE, "1", "256 start 255"), "(refused 7 0 0)".to_string()),
+        (with(Q, "3", "3 start 1"), "(refused 7 0 0)".to_string()),
+        (q_from_2(), renumbered.to_string()),
+        (backward(), "(accepted 1)|(machine 0 (places 2) (start 1) (move a 1 0))".to_string()),
     ];
     examples.map(|(text, answer)| known("example", text, &answer)).into()
 }
@@ -55,6 +75,14 @@ const FAULTS: &[(&str, &str)] = &[
     ("1 2 0", "(states 2)|(events a a -)|(machine (0))"),
     ("3 3 0", "(states 2)|(events a)|(step 0 b 1)|()"),
     ("1 3 0", "(states 2)|(events a)|(step 0 b 01)|(machine (0 1))"),
+    // So with a start on line 1, which has to be a state.
+    ("1 1 0", "(states 0 start)|(events)|(machine (0))"),
+    ("1 1 0", "(states 257 start 1000)|(events)|(machine (0))"),
+    ("2 1 0", "(states 257 start 0)|(events A)|(machine (0))"),
+    ("2 1 0", "(states 257 start 257)|(events)|(machine (0))"),
+    ("3 1 0", "(states 256 start 256)|(events)|(machine (0))"),
+    ("3 1 0", "(states 1 start 1)|()"),
+    ("3 2 0", "(states 2 start 1)|(events a a)|(machine (0 1))"),
     // All lines before 4, a missing one too.
     ("3 4 0", "(states 2)|(events a)|(step 0 a 0)|(step 0 b 1)|(machine (0 1))"),
     ("3 4 0", "(states 2)|(events a)|(step 0 a 0)|(machine (2))"),
@@ -73,6 +101,12 @@ const FAULTS: &[(&str, &str)] = &[
     ("6 1 0", "(states 3)|(events c b a d)|(step 0 c 1)|(machine (0 1 2))"),
     ("7 1 0", "(states 4)|(events a)|(step 0 a 2)|(step 1 a 3)|(step 3 a 1)|(machine (0 0))"),
     ("7 3 0", "(states 4)|(events a)|(step 0 a 1)|(step 1 a 2)|(machine (0 0))"),
+    // 7 from the start, so that it may name state 0.
+    ("7 0 0", "(states 2 start 1)|(events)|(machine (0 0))"),
+    ("7 0 0", "(states 3 start 1)|(events a b)|(step 0 a 1)|(step 1 b 2)|(machine (0 1 2))"),
+    ("7 1 0", "(states 3 start 2)|(events a)|(step 2 a 0)|(step 1 a 0)|(machine (0 1 2))"),
+    ("6 1 0", "(states 3 start 1)|(events a b)|(step 0 a 1)|(machine (0 1 2))"),
+    ("5 4 3", "(states 3 start 1)|(events a b)|(step 0 a 1)|(step 0 a 2)|(machine (0 1 2))"),
     // In one machine 8, 9, 10, of each the lowest state or event.
     ("8 0 1", "(states 3)|(events a)|(step 0 a 1)|(step 1 a 2)|(machine (2 2 1) (1))"),
     ("8 0 0", "(states 3)|(events a)|(step 0 a 1)|(step 1 a 2)|(machine (0 2 0))"),
@@ -90,6 +124,10 @@ const FAULTS: &[(&str, &str)] = &[
         "10 1 1",
         "(states 3)|(events a b)|(step 0 a 1)|(step 1 b 2)|(step 0 b 2)|(machine (0 1 2))|(machine (0) (1) (2))",
     ),
+    // With a start the same states and events are named.
+    ("9 0 0", "(states 2 start 1)|(events a)|(step 1 a 0)|(machine (1))"),
+    ("11 0 0", "(states 2 start 1)|(events a)|(step 1 a 0)|(machine (0 1))"),
+    ("12 0 0", "(states 3 start 2)|(events a b)|(step 2 a 1)|(step 2 b 0)|(machine (2 0) (1))|(machine (2 1) (0))"),
     // All events of 11 before 12, of each the lowest event, then the lowest state.
     ("11 1 0", "(states 3)|(events ready brake)|(step 0 ready 1)|(step 0 brake 2)|(machine (0 2) (1))"),
     ("11 0 0", "(states 3)|(events a b)|(step 0 a 1)|(step 0 b 2)|(machine (0 1 2))"),
@@ -132,6 +170,30 @@ const CALLS: &[(fn() -> String, &str, &str)] = &[
     (y, "name home", "home"),
     (y, "name 3", "(refused 14 0 0)"),
     (y, "name early", "(refused 14 0 0)"),
+    (y_from_3, "run", "(whole (places 1 1))"),
+    (y_from_3, "run home", "(whole (places 0 0))"),
+    (y_from_3, "run ready", "(blocked 0 0 (places 1 1))"),
+    (y_from_3, "run brake", "(blocked 0 1 (places 1 1))"),
+    (y_from_3, "run home ready home", "(blocked 2 1 (places 1 0))"),
+    (y_from_3, "run 2 1 0 2 2", "(blocked 4 0 (places 0 0))"),
+    (y_from_3, "run 2 3", "(refused 14 1 0)"),
+    (y_from_3, "thin", "(kept 2 (0 1))"),
+    (y_from_3, "steps", "(steps 5)|(step 0 0 1)|(step 0 1 2)|(step 1 1 3)|(step 2 0 3)|(step 3 2 0)"),
+    (y_from_3, "steps 4", "(refused 13 5 0)"),
+    (y_from_3, "check 144", "(refused 13 145 0)"),
+    (y_from_3, "name 0", "ready"),
+    (y_from_3, "name home", "home"),
+    (y_from_3, "name 3", "(refused 14 0 0)"),
+    (q_from_2, "run", "(whole (places 1 0 1))"),
+    (q_from_2, "run 1", "(whole (places 1 1 0))"),
+    (q_from_2, "run 0 1", "(blocked 1 2 (places 0 0 0))"),
+    (q_from_2, "thin", "(kept 1 (2))"),
+    (backward, "run", "(whole (places 1))"),
+    (backward, "run a", "(whole (places 0))"),
+    (backward, "run a a", "(blocked 1 0 (places 0))"),
+    (backward, "steps", "(steps 1)|(step 1 0 0)"),
+    (backward, "name a", "a"),
+    (backward, "thin", "(kept 1 (0))"),
     (y_with_first_again, "thin", "(kept 2 (0 1))"),
     (q_with_third, "thin", "(kept 1 (2))"),
     (q_with_third, "run 0", "(whole (places 1 0 1))"),
@@ -163,6 +225,23 @@ fn q() -> String {
 
 fn one_state() -> String {
     ONE_STATE.to_string()
+}
+
+fn y_from_3() -> String {
+    y_from(3)
+}
+
+/// Q and its third machine, where 0 and 2 have exchanged their numbers and some places their order.
+fn q_from_2() -> String {
+    lines(
+        "(states 3 start 2)|(events ready brake)|(step 2 ready 1)|(step 2 brake 0)|\
+         (machine (1) (2 0))|(machine (2 1) (0))|(machine (0 1) (2))",
+    )
+}
+
+/// All is reached from the start, and not from state 0.
+fn backward() -> String {
+    lines("(states 2 start 1)|(events a)|(step 1 a 0)|(machine (0) (1))")
 }
 
 fn y_without_last() -> String {
