@@ -79,7 +79,7 @@ pub fn proposed(text: &Text, index: usize, refusal: &Refusal) -> Graph {
         is_board: true,
         is_marked: (8..=10).contains(&refusal.number) && refusal.first == index,
         nodes: machine.iter().map(node).collect(),
-        start: place_of(machine, 0),
+        start: text.start.and_then(|state| place_of(machine, state)),
         arrows: (0..text.events.len()).flat_map(|event| moves(text, index, event, refusal)).collect(),
     }
 }

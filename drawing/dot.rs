@@ -22,7 +22,6 @@ rankdir=LR; nodesep=0.35; nslimit=4; nslimit1=4; mclimit=1;
 node [shape=circle fixedsize=true width=0.56 label=\"\"];
 edge [fontname=Helvetica fontsize=15 arrowsize=0.8];
 start [width=0.3];
-start -> 0;
 ";
 
 /// A label is as many letters as the event's name has, since only its width counts. Arrows that lead back do not count for the
@@ -31,7 +30,8 @@ fn question(graph: &Graph) -> String {
     let (columns, is_labelled) = (columns(graph), graph.arrows.len() <= LABELLED);
     let column = |node: usize| columns.iter().position(|column| column.contains(&node));
     let apart = if is_labelled { 0.5 } else { (graph.label() + 60.0) / INCH };
-    let mut question = format!("{HEAD}ranksep={apart:.2};\n");
+    let start = graph.start.map_or(String::new(), |node| format!("start -> {node};\n"));
+    let mut question = format!("{HEAD}{start}ranksep={apart:.2};\n");
     (0..graph.nodes.len()).for_each(|node| _ = writeln!(question, "{node};"));
     for arrow in graph.arrows.iter().filter(|arrow| arrow.from != arrow.to) {
         let label = if is_labelled { "o".repeat(arrow.event.len()) } else { String::new() };

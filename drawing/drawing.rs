@@ -77,7 +77,7 @@ pub fn drawing(text: &Text, refusal: Option<&Refusal>) -> Graph {
         is_board: false,
         is_marked: false,
         nodes: (0..text.states).map(|state| node(text, refusal, state)).collect(),
-        start: Some(0),
+        start: text.start,
         arrows: text.steps.iter().map(|step| arrow(text, refusal, step)).collect(),
     }
 }

@@ -23,6 +23,8 @@ pub type Machine = Vec<Vec<usize>>;
 pub struct Text {
     pub lines: Vec<Vec<u8>>,
     pub states: usize,
+    /// Nothing if line 1 has one that is no state.
+    pub start: Option<usize>,
     pub events: Vec<String>,
     pub steps: Vec<Step>,
     pub machines: Vec<Machine>,
@@ -47,6 +49,16 @@ pub fn number(word: &[u8]) -> Option<usize> {
     std::str::from_utf8(word).ok()?.parse().ok()
 }
 
+/// The count, or 0 if it is over its bound, and the start.
+fn states(words: &[&[u8]]) -> Option<(usize, usize)> {
+    let (count, start) = match words {
+        [_, count] => (count, 0),
+        [_, count, b"start", state] => (count, number(state)?),
+        _ => return None,
+    };
+    Some((number(count).filter(|&count| count <= STATES).unwrap_or(0), start))
+}
+
 fn step(line: usize, words: &[&[u8]]) -> Option<Step> {
     let [_, from, event, to] = words else { return None };
     Some(Step { line, from: number(from)?, event: shown(event, NAME), to: number(to)? })
@@ -66,7 +78,7 @@ impl Text {
         if lines.last().is_some_and(Vec::is_empty) {
             lines.pop();
         }
-        let mut text = Text { lines: vec![], states: 0, events: vec![], steps: vec![], machines: vec![] };
+        let mut text = Text { lines: vec![], states: 0, start: None, events: vec![], steps: vec![], machines: vec![] };
         for (index, line) in lines.iter().enumerate() {
             text.take_line(index + 1, line);
         }
@@ -78,8 +90,10 @@ impl Text {
     fn take_line(&mut self, line: usize, bytes: &[u8]) {
         let words = words(bytes);
         match words.first() {
-            Some(&b"states") if words.len() == 2 && self.states == 0 => {
-                self.states = number(words[1]).filter(|&count| count <= STATES).unwrap_or(0)
+            Some(&b"states") if self.states == 0 => {
+                if let Some((count, start)) = states(&words) {
+                    (self.states, self.start) = (count, Some(start))
+                }
             }
             Some(&b"events") if self.events.is_empty() => {
                 self.events = words[1..].iter().take(EVENTS).map(|name| shown(name, NAME)).collect()
@@ -98,6 +112,7 @@ impl Text {
             self.states = ends.filter(|&count| count <= STATES).max().unwrap_or(0);
         }
         let states = self.states;
+        self.start = Some(self.start.unwrap_or(0)).filter(|&state| state < states);
         self.steps.retain(|step| step.from < states && step.to < states);
     }
 
