@@ -14,7 +14,7 @@
  *
  *                     code     stack
  *     split_check   16,384    61,440
- *     split_steps    8,192    25,600
+ *     split_steps    9,216    25,600
  *     split_name     8,192    22,528
  *     split_run     15,360    61,440
  *     split_thin    15,360    92,160
