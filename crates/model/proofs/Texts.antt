@@ -91,48 +91,40 @@ pub record ValueLines (s : List ℕ) (v : Input) (ls : List Line) : Type 0 where
   pub bytes : s ≡ flatMap written (linesWith start v)
   pub limits : Limits v
 
+module _ (s : List ℕ) (n : ℕ) (o : Option ℕ) (es : List Name) (ts : List Named) (ms : List Machine) (c : Complete (lines n o es ts ms))
+    (bytes : s ≡ flatMap written (lines n o es ts ms)) (short : length s ≤ 32768) where
+  p : Plain n o es ts ms
+  p = plain n o es ts ms (c .good) (c .fine)
+
+  own : (q : Option ℕ) → lines n q es ts ms ≡ linesWith q (input n (startOf o) es (map (numbered es) ts) ms)
+  own q = sym (lines-again n o es ts ms p q)
+
+  fits : length (write (input n (startOf o) es (map (numbered es) ts) ms)) ≤ 32768
+  unfolding write
+  fits = rw (← own (shortest (startOf o))) (omega (arith, short, ap length bytes, shortest-text n o es ts ms))
+
+  some-machine : 1 ≤ length ms
+  some-machine = subst (λ (k : ℕ). 1 ≤ k) (machines-counted n o es ts ms ms) (count-some isMachineLine (lines n o es ts ms) (c .machine))
+
+  lines-value : ValueLines s (input n (startOf o) es (map (numbered es) ts) ms) (lines n o es ts ms)
+  lines-value =
+      record {
+        start = o;
+        initial = refl;
+        lines = own o;
+        bytes = bytes ∙ ap (flatMap written) (own o);
+        limits = limits n o es ts ms p fits some-machine;
+      }
+
 pub value-lines : (s : List ℕ) (v : Input) (r : Reads s v) → ValueLines s v (r .lines)
-unfolding write
-value-lines s v r = subst (λ (x : Input). ValueLines s x (r .lines)) (sym is) (record {
-  start = w .start;
-  initial = refl;
-  lines = own;
-  bytes = bytes;
-  limits = limits (w .states) (w .start) (w .names) (w .steps) (w .machines) p few some-machine;
-})
-  where
-    c : Complete (r .lines)
-    c = reads-complete s v r
-
-    w : Shape (r .lines)
-    w = shape (r .lines) (c .good) (c .two)
-
-    d : Complete (lines (w .states) (w .start) (w .names) (w .steps) (w .machines))
-    d = subst (λ (k : List Line). Complete k) (w .shaped) c
-
-    p : Plain (w .states) (w .start) (w .names) (w .steps) (w .machines)
-    p = plain (w .states) (w .start) (w .names) (w .steps) (w .machines) (d .good) (d .fine)
-
-    is : v ≡ input (w .states) (startOf (w .start)) (w .names) (map (numbered (w .names)) (w .steps)) (w .machines)
-    is = r .value ∙ ap valueOf (w .shaped) ∙ value-of-lines (w .states) (w .start) (w .names) (w .steps) (w .machines)
-
-    own : r .lines ≡ linesWith (w .start) (input (w .states) (startOf (w .start)) (w .names) (map (numbered (w .names)) (w .steps)) (w .machines))
-    own = w .shaped ∙ sym (lines-again (w .states) (w .start) (w .names) (w .steps) (w .machines) p (w .start))
-
-    whole : s ≡ flatMap written (r .lines)
-    whole = begun s (r .lines) [] (r .bytes) .bytes ∙ append-nil (flatMap written (r .lines))
-
-    bytes : s ≡ flatMap written (linesWith (w .start) (input (w .states) (startOf (w .start)) (w .names) (map (numbered (w .names)) (w .steps)) (w .machines)))
-    bytes = whole ∙ ap (flatMap written) own
-
-    few : length (write (input (w .states) (startOf (w .start)) (w .names) (map (numbered (w .names)) (w .steps)) (w .machines))) ≤ 32768
-    few = rw (lines-again (w .states) (w .start) (w .names) (w .steps) (w .machines) p (shortest (startOf (w .start))))
-        (omega (arith, r .size, ap length (whole ∙ ap (flatMap written) (w .shaped)), shortest-text (w .states) (w .start) (w .names) (w .steps) (w .machines)))
-
-    some-machine : 1 ≤ length (w .machines)
-    some-machine =
-        subst (λ (k : ℕ). 1 ≤ k) (machines-counted (w .states) (w .start) (w .names) (w .steps) (w .machines) (w .machines))
-        (count-some isMachineLine (lines (w .states) (w .start) (w .names) (w .steps) (w .machines)) (d .machine))
+value-lines s v r =
+    let c = reads-complete s v r in
+    let w = shape (r .lines) (c .good) (c .two) in
+    let is = r .value ∙ ap valueOf (w .shaped) ∙ value-of-lines (w .states) (w .start) (w .names) (w .steps) (w .machines) in
+    let bytes = begun s (r .lines) [] (r .bytes) .bytes ∙ append-nil (flatMap written (r .lines)) in
+    subst (λ (x : Input). ValueLines s x (r .lines)) (sym is)
+    (subst (ValueLines s (input (w .states) (startOf (w .start)) (w .names) (map (numbered (w .names)) (w .steps)) (w .machines))) (sym (w .shaped))
+    (lines-value s (w .states) (w .start) (w .names) (w .steps) (w .machines) (subst Complete (w .shaped) c) (bytes ∙ ap (flatMap written) (w .shaped)) (r .size)))
 
 -- what is read is within the limits
 pub limits-of : (s : List ℕ) (v : Input) → Reads s v → Limits v
