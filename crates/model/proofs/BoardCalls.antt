@@ -20,7 +20,7 @@ use Rattle.model.specs.BoardTable.{OnSheet, SaysSheet, ended, Unbroken, 
 use Rattle.model.specs.Demands.{Lends}
 use Rattle.model.proofs.Laws.{dec, T-true, T-false, not-T, contra, and-l, and-r, and-i, cond-false, exists-intro, every-elim, not-every-elim}
 use Rattle.model.proofs.ListLaws.{flatMap-append}
-use Rattle.model.proofs.Positions.{at-below, at-mem, mem-at, split-at, take-mem, index-at, index-first}
+use Rattle.model.proofs.Positions.{at-below, at-mem, mem-at, split-at, take-mem, index-at, index-first, index-skip}
 use Rattle.model.proofs.Verdicts.{refused-passed, same-refused, same-passed}
 use Rattle.model.proofs.Lending.{lends}
 use Rattle.model.proofs.GoodLines.{sheet-lines}
@@ -63,12 +63,6 @@ pub sheet-unbroken : (s : List ℕ) (b : Board) → SaysSheet s b → (e : Name)
 sheet-unbroken s b w e (l, m, (x, i, o)) =
     let k = mem-at b l m in
     one-unbroken e (x .event) o (w .1 .good (k .0) l (k .1) .moves x i .name)
-
-index-skip : {A : Type 0} (g : A → Bool) (xs ys : List A) → ((x : A) → List·Memᴰ x xs → T (not (g x))) → index g (xs ++ ys) ≡ length xs + index g ys
-unfolding index
-index-skip g [] ys h = omega arith
-index-skip g (x ∷ xs) ys h =
-    cond-false (g x) 0 (suc (index g (xs ++ ys))) (h x (List·Memᴰ·head refl)) ∙ omega (arith, index-skip g xs ys (λ y m. h y (List·Memᴰ·tail m)))
 
 empty : (l : List ℕ) → T (isEmpty l) → l ≡ []
 unfolding isEmpty

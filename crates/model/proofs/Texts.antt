@@ -19,7 +19,7 @@ use Rattle.model.specs.Table.{Begins, Fine, Reads}
 use Rattle.model.proofs.Laws.{dec}
 use Rattle.model.proofs.Counting.{count-some, count-none}
 use Rattle.model.proofs.Chains.{Each, Proper, each-map, each-all, all-each, begun, begins}
-use Rattle.model.proofs.Values.{Both, Named, lines, Shape, shape, machines-counted, Plain, plain, both, numbered, named, input, value-of-lines, lines-with, lines-again, limits, plain-limits, value-again}
+use Rattle.model.proofs.Values.{Both, Named, lines, shape, machines-counted, Plain, plain, both, numbered, named, input, value-of-lines, lines-with, lines-again, limits, plain-limits, value-again}
 
 -- complete lines, with a machine
 pub record Complete (ls : List Line) : Type 0 where
