@@ -1,10 +1,10 @@
 -- The calls that are given a sheet: writing the machines read, and the refusals of the board's run.
-use Prim.Native.Nat.{ℕ, zero, suc, _+_, _<_}
+use Prim.Native.Nat.{ℕ, suc, _+_, _<_}
 use native.Mathlib.Omega.{arith}
 use mathlib.Core.Path.{_≡_, refl, ap, sym, _∙_, subst}
 use mathlib.Core.Logic.{_⊎_, inl, inr, _↔_}
 use mathlib.Core.Bool.{Bool, true, not, cond, _&&_}
-use mathlib.Core.List.{List, [], _∷_, _++_, flatMap, append-assoc, append-nil, List·Memᴰ, List·Memᴰ·head, List·Memᴰ·tail, Memᴰ·append-right}
+use mathlib.Core.List.{List, [], _∷_, _++_, flatMap, append-assoc, append-nil, List·Memᴰ, List·Memᴰ·head, Memᴰ·append-right}
 use mathlib.Core.Option.{Option, none, some}
 use lib.Dec.{T}
 use lib.ListN.{length, take, drop, replicate}
@@ -18,7 +18,7 @@ use Rattle.model.specs.Services.{lend, outcomeOf, refusedBy, RunAnswer, 
 use Rattle.model.specs.Board.{readSheet, rewrite, moveOn, startPlaces, splitNames, runNames, boardRun}
 use Rattle.model.specs.BoardTable.{OnSheet, SaysSheet, ended, Unbroken, OddName, NamesOf, SheetRefused, Loads, BoardRefuses}
 use Rattle.model.specs.Demands.{Lends}
-use Rattle.model.proofs.Laws.{dec, T-true, T-false, not-T, contra, and-l, and-r, and-i, cond-false, exists-intro, every-elim, not-every-elim}
+use Rattle.model.proofs.Laws.{dec, T-true, T-false, not-T, contra, and-l, and-r, and-i, exists-intro, every-elim, not-every-elim}
 use Rattle.model.proofs.ListLaws.{flatMap-append}
 use Rattle.model.proofs.Positions.{at-below, at-mem, mem-at, split-at, take-mem, index-at, index-first, index-skip}
 use Rattle.model.proofs.Verdicts.{refused-passed, same-refused, same-passed}
