@@ -24,6 +24,10 @@ starts-away =
     record {
       initial = refl;
       passes = p;
+      own-lines = demand2 s .own-lines v;
+      limits = demand2 s .limits v (p .reads);
+      writes = demand2 s .writes v (demand2 s .limits v (p .reads));
+      all-states = demand2 s .all-states v (p .reads);
       transition-system = demand2 s .transition-system v p7;
       runs = demand2 s .runs v p7;
       machines = demand2 s .machines v (earlier 10 12 (omega arith) s v p);

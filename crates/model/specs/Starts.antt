@@ -6,7 +6,8 @@ use mathlib.Core.Path.{_≡_, refl}
 use mathlib.Core.Logic.{_↔_}
 use mathlib.Core.Bool.{true}
 use mathlib.Core.List.{List, [], _∷_, flatMap, flatten, List·Memᴰ}
-use mathlib.Core.Option.{some, orElse}
+use mathlib.Core.Option.{Option, some, orElse}
+use lib.Dec.{ltb}
 use lib.ListN.{replicate}
 use Rattle.model.specs.Lists.{exists, every, first, index, count, satisfying, isSome, isEmpty, elem, lowest}
 use Rattle.model.specs.Refusal.{Refusal, refuse, refused, passed}
@@ -14,12 +15,12 @@ use Rattle.model.specs.TransitionSystem.{leads, systemStep, andThen, run
 use Rattle.model.specs.Product.{moveFrom, both, oneMore, inAlphabet, effective, fire, fireAll, productStep, blocker, runFrom}
 use Rattle.model.specs.Machine.{Machine, Decomposition, placeIn, places, crosses, move, productRuns, duplicateState, unplacedState, transitionsOf, enters, allOrNone, uniform, nonuniformEvent, ineffectiveEvent, inPre, ready, common, excited, openState, openEvent, closureRefusal, machineRefusal, machinesRefusal, coverRefusal, select, suffices, tryDrop, thinBelow, keptMarks}
 use Rattle.model.specs.Bytes.{bytes, isDigit, isLetter, isNameByte, isFigure, isName, digits}
-use Rattle.model.specs.Form.{isMachineLine, isStepLine, startGiven, statesLine, spacedName, eventsLine, stepLine, spacedFigure, place, machineLine, lineAfter}
-use Rattle.model.specs.Text.{Input, system, eventNumber, valueOf, distinct, inLimit, isDeclared, ended, lineThen, linesFrom, read, lineTwo, nameAt}
+use Rattle.model.specs.Form.{startOf, isMachineLine, isStepLine, startGiven, statesLine, spacedName, eventsLine, stepLine, spacedFigure, place, machineLine, lineAfter}
+use Rattle.model.specs.Text.{Input, system, eventNumber, valueOf, distinct, inLimit, isDeclared, ended, lineThen, linesFrom, read, linesWith, write, Limits, lineTwo, nameAt}
 use Rattle.model.specs.Sheet.{addMove, movesBelow, sheetLine, sheetLines, moveBytes, writtenMove, writtenLine, writtenCount, writtenSheet, boardOf, sheet}
 use Rattle.model.specs.Services.{asFarAs7, asFarAs10, asFarAs12, lend, check, name, blocked, outcomeOf, padded, ranAnswer, runEvents, run, Kept, keptOf, thin}
-use Rattle.model.specs.Region.{Walk, IsTransitionSystem, IsMachine, Effective, ExcitationClosed}
-use Rattle.model.specs.Table.{Refused, Passes}
+use Rattle.model.specs.Region.{Walk, IsTransitionSystem, IsRegion, IsMachine, Effective, ExcitationClosed}
+use Rattle.model.specs.Table.{Reads, Refused, Passes}
 use Rattle.model.specs.Demands.{Derived, Sheet, OfSystem, SystemRuns, ProductRuns, Answers, Thinned, Faithful, Differ, OwnSheet}
 use Rattle.model.specs.Examples.{Y0, Y1, Writes, Refuses, Runs, Keeps}
 
@@ -93,6 +94,10 @@ pub record Starts : Type 0 where
 pub record StartsAway (s : List ℕ) (v : Input) : Type 0 where
   pub initial : v .initial ≡ 3
   pub passes : Passes 12 s v
+  pub own-lines : (r : Reads s v) → (o : Option ℕ) × (startOf o ≡ 3) × (r .lines ≡ linesWith o v)
+  pub limits : Limits v
+  pub writes : Reads (write v) v
+  pub all-states : IsRegion (system v) (λ u. ltb u 4)
   pub transition-system : IsTransitionSystem (system v)
   pub runs : (es : List ℕ) (u : ℕ) → (systemRuns (system v) es ≡ some u) ↔ Walk (system v) 3 es u
   pub machines : Derived (system v) (v .machines)
