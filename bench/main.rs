@@ -71,8 +71,8 @@ fn main() {
     ));
     accepted(&yes).print(markdown);
     about(
-        "Refused: check on both-32k (2: machines-32k), edited as late as the refusal allows; for 14 it is run, for 15 sheet \
-         on cycle-31k.",
+        "Refused: check on both-32k (2: machines-32k, 13: cycle-31k), edited as late as the refusal allows; for 14 it is run, \
+         for 15 sheet on cycle-31k.",
     );
     refused(&no).print(markdown);
     about("Goals: no figure of a row is to be above `at most`.");

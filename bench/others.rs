@@ -5,7 +5,7 @@ use reference::Refusal;
 use std::hint::black_box;
 
 /// How many requests of document 02 are in force.
-const RULES: reference::Rules = reference::Rules(2);
+const RULES: reference::Rules = reference::Rules(3);
 
 /// It has no steps and no name.
 pub struct Peer {

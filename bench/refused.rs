@@ -86,12 +86,13 @@ pub fn refused(programs: &mut Programs, texts: &[Text], sheets: &[Sheet]) -> Vec
         (*what, edit(&text).into_bytes(), Service::Check(SHEET))
     });
     let Text { bytes, walk, .. } = named("both-32k");
-    let peer::Answer::Refused(13, sheet, 0) = peer::check(bytes, &mut []) else { panic!("a sheet in no bytes") };
+    let cycle = &named("cycle-31k").bytes;
+    let peer::Answer::Refused(13, sheet, 0) = peer::check(cycle, &mut []) else { panic!("a sheet in no bytes") };
     let stranger = last_event(bytes) as u8 + 1;
     let last = sheets.last().expect("a sheet");
     let unended = last.bytes[..last.bytes.len() - 1].to_vec();
     let calls = [
-        ("a byte too few for the sheet", bytes.clone(), Service::Check(sheet - 1)),
+        ("a byte too few for the sheet", cycle.clone(), Service::Check(sheet - 1)),
         ("the last event is not declared", bytes.clone(), Service::Run([&walk[..], &[stranger]].concat())),
         ("the last byte of a sheet is missing", unended, Service::Sheet(SHEET)),
     ];

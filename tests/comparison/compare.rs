@@ -47,7 +47,7 @@ mod words;
 mod written;
 
 /// How many requests of document 02 are in force.
-const RULES: reference::Rules = reference::Rules(2);
+const RULES: reference::Rules = reference::Rules(3);
 
 /// A process for each call is what takes the time, and there is a wait in each.
 const WORKERS: usize = 4;

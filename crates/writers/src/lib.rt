@@ -1,6 +1,6 @@
 // Bytes, figures and numerals into a lent buffer; the line that tells a refusal.
 ghost use mathlib.Core.Path.{_≡_};
-ghost use Prim.Native.Nat.{_+_, _<_, _≤_};
+ghost use Prim.Native.Nat.{_+_, _-_, _*_, _<_, _≤_};
 ghost use lib.ListN.{length};
 ghost use Rattle.model.specs.Refusal.{refuse};
 ghost use Rattle.model.specs.Bytes.{digits, numeral};
@@ -42,15 +42,44 @@ pub fn figure_len(n: usize) -> usize
     }
 }
 
+// Where the digit of the tens stands in a figure: the last but one, or at the front if there is no other.
+fn tens_at(n: usize) -> usize
+    ensures { λ r. ⌜ r ≡ length (digits n) - 2 ⌝ }
+{
+    if n < 100 { 0 } else { 1 }
+}
+
+// How often a unit goes into a number, and what is left.
+struct Counted {
+    count: usize,
+    rest: usize,
+}
+
+// By comparing and subtracting: nothing is divided where a sheet's figures are made (tests/figures).
+fn count_off(n: usize, unit: usize) -> Counted
+    requires { ⌜ 0 < unit ⌝ }
+    ensures { λ r. ⌜ (n ≡ r .count * unit + r .rest) × (r .rest < unit) ⌝ }
+{
+    let mut count = 0;
+    let mut rest = n;
+    while rest >= unit {
+        count += 1;
+        rest -= unit;
+    }
+    Counted { count, rest }
+}
+
 // A number up to 999. Each digit is stored, a leading zero too, which the digit after it overwrites: so no store hangs on a branch.
 pub fn write_figure(n: usize, out: &mut [u8], at: usize) -> usize
     requires { ⌜ (n ≤ 999) × (at + length (digits n) ≤ length (now out)) ⌝ }
     ensures { λ r. ⌜ Writes (digits n) at (now (out .entry)) r (now (out .exit)) ⌝ }
 {
     let last = figure_len(n) - 1;
-    out[at] = digit(n / 100);
-    out[at + last / 2] = digit(n / 10 % 10);
-    out[at + last] = digit(n % 10);
+    let hundreds = count_off(n, 100);
+    let tens = count_off(hundreds.rest, 10);
+    out[at] = digit(hundreds.count);
+    out[at + tens_at(n)] = digit(tens.count);
+    out[at + last] = digit(tens.rest);
     at + last + 1
 }
 

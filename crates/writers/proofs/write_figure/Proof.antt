@@ -12,6 +12,12 @@ figure-len-requires c κs = search needs
 sub-last : tie.Need-sub-last
 sub-last c = search needs
 
+count-off-requires : tie.Need-count-off-requires
+count-off-requires c κs = search needs
+
+count-off-requires-2 : tie.Need-count-off-requires-2
+count-off-requires-2 c κs = search needs
+
 digit-requires : tie.Need-digit-requires
 digit-requires c κs = search needs
 
@@ -20,6 +26,9 @@ slice-write-out c = search needs
 
 digit-requires-2 : tie.Need-digit-requires-2
 digit-requires-2 c κs = search needs
+
+tens-at-requires : tie.Need-tens-at-requires
+tens-at-requires c κs = search needs
 
 add-out : tie.Need-add-out
 add-out c = search needs
@@ -47,8 +56,8 @@ same-length c = search needs
 
 returns : tie.Need-returns
 returns c =
-    figure-stored _ _ _ _ (c .before .before .before .before .before .pre .0) (omega arith) (c .before .before .digit .ensures) (c .before .digit2 .ensures)
-    (c .digit3 .ensures)
+    figure-stored _ _ _ _ _ _ _ _ (omega arith) (c .before .tens-at .ensures) _ _ _ _ (c .before .before .before .before .before .before .before .before .pre .0) (c .before .before .before .before .before .count-off .ensures)
+    (c .before .before .before .before .count-off2 .ensures) (c .before .before .before .digit .ensures) (c .before .before .digit2 .ensures) (c .digit3 .ensures)
 
 pub write-figure-spec : {M : Type 1} → statement M
 write-figure-spec =
@@ -56,9 +65,12 @@ write-figure-spec =
     (tie.spec
     figure-len-requires
     sub-last
+    count-off-requires
+    count-off-requires-2
     digit-requires
     slice-write-out
     digit-requires-2
+    tens-at-requires
     add-out
     slice-write-out-2
     digit-requires-3
