@@ -48,27 +48,27 @@ counted-more count unit rest e h = omega (arith, add-mul count 1 unit)
 
 -- the digits of a figure stored from the front, where a leading zero is overwritten
 module _ (n : ℕ) (out : List ℕ) (at last middle a b d : ℕ) (k : last + 1 ≡ length (digits n)) (j : middle ≡ length (digits n) - 2) where
-  abbrev Stored : Type 0
-  Stored = Writes (digits n) at out (at + last + 1) (set (set (set out at a) (at + middle) b) (at + last) d)
+  abbrev ThreeStored : Type 0
+  ThreeStored = Writes (digits n) at out (at + last + 1) (set (set (set out at a) (at + middle) b) (at + last) d)
 
-  stored : n ≤ 999 → a ≡ 48 + n / 100 → b ≡ 48 + n / 10 % 10 → d ≡ 48 + n % 10 → Stored
-  stored m p q r = go (order n 10) (order n 100)
+  three-stored : n ≤ 999 → a ≡ 48 + n / 100 → b ≡ 48 + n / 10 % 10 → d ≡ 48 + n % 10 → ThreeStored
+  three-stored m p q r = go (order n 10) (order n 100)
     where
-      one : n < 10 → Stored
+      one : n < 10 → ThreeStored
       one h =
           let y : at + middle ≡ at = omega (arith, length-one n h) in
           let z : at + last ≡ at = omega (arith, length-one n h) in
           let v : d ≡ 48 + n = omega arith in
           rw (y, z, set-set out at a b, set-set out at b d, digits-one n h) (byte-stored v)
 
-      two : 10 ≤ n → n < 100 → Stored
+      two : 10 ≤ n → n < 100 → ThreeStored
       two l h =
           let y : at + middle ≡ at = omega (arith, length-two n l h) in
           let z : at + last ≡ at + 1 = omega (arith, length-two n l h) in
           let v : b ≡ 48 + n / 10 = omega arith in
           rw (y, z, set-set out at a b, digits-two n l h) (writes-append (byte-stored v) (byte-stored r))
 
-      go : (n < 10) ⊎ (10 ≤ n) → (n < 100) ⊎ (100 ≤ n) → Stored
+      go : (n < 10) ⊎ (10 ≤ n) → (n < 100) ⊎ (100 ≤ n) → ThreeStored
       go (inl h) w = one h
       go (inr l) (inl h) = two l h
       go (inr l) (inr h) =
@@ -77,8 +77,8 @@ module _ (n : ℕ) (out : List ℕ) (at last middle a b d : ℕ) (k : last + 1 �
           rw (y, z, digits-three n h) (writes-append (byte-stored p) (writes-append (byte-stored q) (byte-stored r)))
 
   -- from what was counted off by hundreds, and the rest by tens
-  pub figure-stored : (h r t o : ℕ) → n ≤ 999 → (n ≡ h * 100 + r) × (r < 100) → (r ≡ t * 10 + o) × (o < 10) → a ≡ 48 + h → b ≡ 48 + t → d ≡ 48 + o → Stored
-  figure-stored h r t o m p q x y z = stored m (omega (arith, p .0, p .1)) (omega (arith, p .0, p .1, q .0, q .1)) (omega (arith, p .0, p .1, q .0, q .1))
+  pub figure-stored : (h r t o : ℕ) → n ≤ 999 → (n ≡ h * 100 + r) × (r < 100) → (r ≡ t * 10 + o) × (o < 10) → a ≡ 48 + h → b ≡ 48 + t → d ≡ 48 + o → ThreeStored
+  figure-stored h r t o m p q x y z = three-stored m (omega (arith, p .0, p .1)) (omega (arith, p .0, p .1, q .0, q .1)) (omega (arith, p .0, p .1, q .0, q .1))
 
 -- a number and its copy have one figure
 module _ {n r : ℕ} (e : r ≡ n) where

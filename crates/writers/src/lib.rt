@@ -50,13 +50,13 @@ fn tens_at(n: usize) -> usize
 }
 
 // How often a unit goes into a number, and what is left.
-struct Counted {
+struct CountedOff {
     count: usize,
     rest: usize,
 }
 
 // By comparing and subtracting: nothing is divided where a sheet's figures are made (tests/figures).
-fn count_off(n: usize, unit: usize) -> Counted
+fn count_off(n: usize, unit: usize) -> CountedOff
     requires { ⌜ 0 < unit ⌝ }
     ensures { λ r. ⌜ (n ≡ r .count * unit + r .rest) × (r .rest < unit) ⌝ }
 {
@@ -66,7 +66,7 @@ fn count_off(n: usize, unit: usize) -> Counted
         count += 1;
         rest -= unit;
     }
-    Counted { count, rest }
+    CountedOff { count, rest }
 }
 
 // A number up to 999. Each digit is stored, a leading zero too, which the digit after it overwrites: so no store hangs on a branch.

@@ -56,13 +56,12 @@ same-length c = search needs
 
 returns : tie.Need-returns
 returns c =
-    figure-stored _ _ _ _ _ _ _ _ (omega arith) (c .before .tens-at .ensures) _ _ _ _
-    (c .before .before .before .before .before .before .before .before .pre .0)
+    figure-stored _ _ _ _ _ _ _ _ (omega arith) (omega arith) _ _ _ _ (omega arith)
     (c .before .before .before .before .before .count-off .ensures)
     (c .before .before .before .before .count-off2 .ensures)
-    (c .before .before .before .digit .ensures)
-    (c .before .before .digit2 .ensures)
-    (c .digit3 .ensures)
+    (omega arith)
+    (omega arith)
+    (omega arith)
 
 pub write-figure-spec : {M : Type 1} → statement M
 write-figure-spec =
