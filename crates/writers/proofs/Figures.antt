@@ -51,8 +51,8 @@ module _ (n : ℕ) (out : List ℕ) (at last middle a b d : ℕ) (k : last + 1 �
   abbrev ThreeStored : Type 0
   ThreeStored = Writes (digits n) at out (at + last + 1) (set (set (set out at a) (at + middle) b) (at + last) d)
 
-  three-stored : n ≤ 999 → a ≡ 48 + n / 100 → b ≡ 48 + n / 10 % 10 → d ≡ 48 + n % 10 → ThreeStored
-  three-stored m p q r = go (order n 10) (order n 100)
+  three-stored : a ≡ 48 + n / 100 → b ≡ 48 + n / 10 % 10 → d ≡ 48 + n % 10 → ThreeStored
+  three-stored p q r = go (order n 10) (order n 100)
     where
       one : n < 10 → ThreeStored
       one h =
@@ -77,8 +77,8 @@ module _ (n : ℕ) (out : List ℕ) (at last middle a b d : ℕ) (k : last + 1 �
           rw (y, z, digits-three n h) (writes-append (byte-stored p) (writes-append (byte-stored q) (byte-stored r)))
 
   -- from what was counted off by hundreds, and the rest by tens
-  pub figure-stored : (h r t o : ℕ) → n ≤ 999 → (n ≡ h * 100 + r) × (r < 100) → (r ≡ t * 10 + o) × (o < 10) → a ≡ 48 + h → b ≡ 48 + t → d ≡ 48 + o → ThreeStored
-  figure-stored h r t o m p q x y z = three-stored m (omega (arith, p .0, p .1)) (omega (arith, p .0, p .1, q .0, q .1)) (omega (arith, p .0, p .1, q .0, q .1))
+  pub figure-stored : (h r t o : ℕ) → (n ≡ h * 100 + r) × (r < 100) → (r ≡ t * 10 + o) × (o < 10) → a ≡ 48 + h → b ≡ 48 + t → d ≡ 48 + o → ThreeStored
+  figure-stored h r t o p q x y z = three-stored (omega (arith, p .0, p .1)) (omega (arith, p .0, p .1, q .0, q .1)) (omega (arith, p .0, p .1, q .0, q .1))
 
 -- a number and its copy have one figure
 module _ {n r : ℕ} (e : r ≡ n) where

@@ -56,7 +56,7 @@ same-length c = search needs
 
 returns : tie.Need-returns
 returns c =
-    figure-stored _ _ _ _ _ _ _ _ (omega arith) (omega arith) _ _ _ _ (omega arith)
+    figure-stored _ _ _ _ _ _ _ _ (omega arith) (omega arith) _ _ _ _
     (c .before .before .before .before .before .count-off .ensures)
     (c .before .before .before .before .count-off2 .ensures)
     (omega arith)
