@@ -63,3 +63,9 @@ pub mod Naming
 pub mod Refusing
 pub mod Demands
 pub mod Starts
+-- merging: coarser machines, one merge, the pass, the merged text, and what request 4 says
+pub mod Coarser
+pub mod MergePlaces
+pub mod Merging
+pub mod MergedText
+pub mod Merges

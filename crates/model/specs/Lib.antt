@@ -10,11 +10,13 @@ pub mod Form
 pub mod Text
 pub mod Sheet
 pub mod Table
+pub mod Merging
 pub mod Services
 pub mod Board
 pub mod BoardTable
 pub mod Printed
 pub mod Demands
+pub mod Merged
 pub mod Examples
 pub mod Starts
 pub mod Cases
