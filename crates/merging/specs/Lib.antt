@@ -1,0 +1,2 @@
+-- `Groups`: the places of a machine in groups, each to be one place.
+pub mod Groups

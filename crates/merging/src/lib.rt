@@ -1,0 +1,1 @@
+// Merge: which places become one.
