@@ -1,10 +1,10 @@
 -- Which places of a machine bar each other, as the rows tell.
-use Prim.Native.Nat.{ℕ, zero, suc, _+_, _*_, _<_, _≤_}
+use Prim.Native.Nat.{ℕ, suc, _+_, _*_, _<_, _≤_}
 use mathlib.Core.Path.{_≡_}
-use mathlib.Core.Logic.{_↔_}
-use mathlib.Core.Bool.{Bool, false, not, _&&_, _||_}
+use mathlib.Core.Logic.{_↔_, _⊎_}
+use mathlib.Core.Bool.{Bool, not, _&&_}
 use mathlib.Core.List.{List}
-use lib.Dec.{T, eqb, ltb}
+use lib.Dec.{T, ltb}
 use lib.ListN.{length}
 use Rattle.model.specs.Lists.{isSome, lowest}
 use Rattle.state_set.specs.Rows.{memberAt}
@@ -37,22 +37,22 @@ unfoldable pub haveInCommon : (ℕ → Bool) → (ℕ → Bool) → Bool
 haveInCommon f g = isSome (lowest (λ i. f i && g i) 256)
 
 -- a and c are p and q, in this order or the other
-unfoldable pub pair : ℕ → ℕ → ℕ → ℕ → Bool
-pair p q a c = (eqb a p && eqb c q) || (eqb c p && eqb a q)
+abbrev pub Pair : ℕ → ℕ → ℕ → ℕ → Type 0
+Pair p q a c = ((a ≡ p) × (c ≡ q)) ⊎ ((a ≡ q) × (c ≡ p))
 
 -- each of two places is also in the set of the other
 pub record Paired (p q : ℕ) (old new : List ℕ) : Type 0 where
   pub words : length new ≡ length old
-  pub members : (a c : ℕ) → memberAt new a c ≡ (memberAt old a c || pair p q a c)
+  pub members : (a c : ℕ) → T (memberAt new a c) ↔ (T (memberAt old a c) ⊎ Pair p q a c)
 
 -- place q of machine m has one of these states
-unfoldable pub hasOne : List ℕ → ℕ → ℕ → (ℕ → Bool) → ℕ → Bool
-hasOne sets m size states q = ltb q size && haveInCommon states (memberAt sets (m * 64 + q))
+abbrev pub HasOne : List ℕ → ℕ → ℕ → (ℕ → Bool) → ℕ → Type 0
+HasOne sets m size states q = (q < size) × T (haveInCommon states (memberAt sets (m * 64 + q)))
 
--- so is p with each place that has one of these states
+-- so are p and each place that has one of these states
 pub record MetPaired (sets : List ℕ) (m size : ℕ) (states : ℕ → Bool) (p : ℕ) (old new : List ℕ) : Type 0 where
   pub words : length new ≡ length old
-  pub members : (a c : ℕ) → memberAt new a c ≡ (memberAt old a c || ((eqb a p && hasOne sets m size states c) || (eqb c p && hasOne sets m size states a)))
+  pub members : (a c : ℕ) → T (memberAt new a c) ↔ (T (memberAt old a c) ⊎ ((q : ℕ) × HasOne sets m size states q × Pair p q a c))
 
 -- the open states of event e for machine m: common to its pre-places on the machines before m and after it, and outside its excitation set
 unfoldable pub openIn : List ℕ → List ℕ → List ℕ → ℕ → ℕ → ℕ → Bool
@@ -84,22 +84,19 @@ pub record Ends (pre post : List ℕ) : Type 0 where
 abbrev pub openFor : Seen → ℕ → ℕ → ℕ → Bool
 openFor x m e = openIn (x .earlier) (x .later) (x .excited) m e
 
--- event e, from place a of machine m, bars a from c
-unfoldable pub eventBars : Seen → ℕ → ℕ → ℕ → ℕ → ℕ → Bool
-eventBars x m size e a c =
-    (onMachine (x .pre) e m && isSome (lowest (openFor x m e) 256))
-    && (eqb a (entry (x .pre) (e * 16 + m)) && (eqb c (entry (x .post) (e * 16 + m)) || hasOne (x .sets) m size (openFor x m e) c))
+-- event e bars its pre-place on machine m from a place: a and c are these two
+pub record EventBars (x : Seen) (m size e a c : ℕ) : Type 0 where
+  pub on : T (onMachine (x .pre) e m)
+  pub opens : T (isSome (lowest (openFor x m e) 256))
+  pub place : ℕ
+  pub barred : (place ≡ entry (x .post) (e * 16 + m)) ⊎ HasOne (x .sets) m size (openFor x m e) place
+  pub pair : Pair (entry (x .pre) (e * 16 + m)) place a c
 
 pub record EventPaired (x : Seen) (m size e : ℕ) (old new : List ℕ) : Type 0 where
   pub words : length new ≡ length old
-  pub members : (a c : ℕ) → memberAt new a c ≡ (memberAt old a c || (eventBars x m size e a c || eventBars x m size e c a))
-
--- one of the first n events bars a and c from each other
-unfoldable pub eventsBar : Seen → ℕ → ℕ → ℕ → ℕ → ℕ → Bool
-eventsBar x m size zero a c = false
-eventsBar x m size (suc n) a c = eventsBar x m size n a c || (eventBars x m size n a c || eventBars x m size n c a)
+  pub members : (a c : ℕ) → T (memberAt new a c) ↔ (T (memberAt old a c) ⊎ EventBars x m size e a c)
 
 -- set a has the places that a bars, as far as the first n events say
 pub record Barring (x : Seen) (m size n : ℕ) (row : List ℕ) : Type 0 where
   pub words : length row ≡ 256
-  pub members : (a c : ℕ) → memberAt row a c ≡ eventsBar x m size n a c
+  pub members : (a c : ℕ) → T (memberAt row a c) ↔ ((e : ℕ) × (e < n) × EventBars x m size e a c)
