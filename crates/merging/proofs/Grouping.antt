@@ -127,9 +127,9 @@ module _ (p : TransitionSystem) (b : Within p) (os front back : Decomposition) (
       record {
         stands = subst (Standing) (append-nil gs) w;
         same =
-          times-stay t p (length front) (splitBy front back m (gs ++ []))
-          (settled-is p b (length front) (splitBy front back m (gs ++ [])) (λ c d l. settled c d (subst (λ (z : ℕ). d < z) (count-split front back m (gs ++ [])) l)))
-          ∙ ap (splitBy front back m) (append-nil gs);
+            times-stay t p (length front) (splitBy front back m (gs ++ []))
+            (settled-is p b (length front) (splitBy front back m (gs ++ [])) (λ c d l. settled c d (subst (λ (z : ℕ). d < z) (count-split front back m (gs ++ [])) l)))
+            ∙ ap (splitBy front back m) (append-nil gs);
         size = omega arith;
       }
     where
@@ -195,10 +195,10 @@ module _ (p : TransitionSystem) (b : Within p) (os front back : Decomposition) (
   start =
       record {
         stands =
-          record {
-            state = subst (λ (n : Machine). State p b os (front ++ (n ∷ back))) (sym (joined-single m)) s;
-            parts = single-parts (length (m .places));
-          };
+            record {
+              state = subst (λ (n : Machine). State p b os (front ++ (n ∷ back))) (sym (joined-single m)) s;
+              parts = single-parts (length (m .places));
+            };
         rising = rising-numbers (length (m .places));
       }
 

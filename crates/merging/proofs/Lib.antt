@@ -13,3 +13,17 @@ pub mod Grouping
 -- the rows: the states common to pre-places on later machines; places that bar each other
 pub mod Later
 pub mod Pairing
+-- the numbers of groups, and the rows with them
+pub mod Remaining
+pub mod Taking
+pub mod Gathering
+pub mod Numbering
+pub mod Renumbering
+pub mod Uniting
+-- machine by machine
+pub mod Machines
+pub mod Telling
+pub mod Others
+pub mod Passing
+pub mod Turns
+pub mod Judging

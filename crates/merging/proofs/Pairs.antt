@@ -63,10 +63,10 @@ merge-state p b os front back m i j h k c s =
       listed = merge-all (Listed p) (length front) i j (front ++ (m ∷ back)) h l (s .listed) (λ v x. merge-listed p b i j v h x);
       covers = c;
       coarser =
-        coarser-trans p (mergeIn (length front) i j (front ++ (m ∷ back))) (front ++ (m ∷ back)) os
-        (subst (λ (ms : Decomposition). CoarserAll p ms (front ++ (m ∷ back))) (sym (merge-mid i j front back m))
-        (coarser-mid p (mergeMachine i j m) m front back (merge-coarser p b i j m h k (s .good m (mid-here m front back)))))
-        (s .coarser);
+          coarser-trans p (mergeIn (length front) i j (front ++ (m ∷ back))) (front ++ (m ∷ back)) os
+          (subst (λ (ms : Decomposition). CoarserAll p ms (front ++ (m ∷ back))) (sym (merge-mid i j front back m))
+          (coarser-mid p (mergeMachine i j m) m front back (merge-coarser p b i j m h k (s .good m (mid-here m front back)))))
+          (s .coarser);
       size = merge-length (length front) i j (front ++ (m ∷ back)) ∙ s .size;
     }
   where
@@ -175,8 +175,8 @@ module _ (p : TransitionSystem) (b : Within p) (os front back : Decomposition) (
         free-stands =
             record {
               state =
-                subst (State p b os) (merge-split front back m i j gs)
-                (merge-state p b os front back (joined m gs) i j l (subst (λ (z : ℕ). j < z) (sym (joined-count m gs)) low) free-covers (w .state));
+                  subst (State p b os) (merge-split front back m i j gs)
+                  (merge-state p b os front back (joined m gs) i j l (subst (λ (z : ℕ). j < z) (sym (joined-count m gs)) low) free-covers (w .state));
               parts = both-parts;
             }
 

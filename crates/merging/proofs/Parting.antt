@@ -103,7 +103,7 @@ module _ {n : ℕ} (gs : List (List ℕ)) (rest : List ℕ) (r : Parts n (gs ++ 
         ap (count (eqb x)) all-of,
         count-append (eqb x) (flatten gs) rest,
         count-some (eqb x) (flatten gs) t,
-        count-some (eqb x) rest (mem-elem x rest k)
+        count-some (eqb x) rest (mem-elem x rest k),
       ))
 
   pub out-rest : (x : ℕ) → x < n → T (not (elem x (flatten gs))) → List·Memᴰ x rest
@@ -124,14 +124,14 @@ pub single-parts : (n : ℕ) → Parts n (map single (numbers n))
 single-parts n =
     record {
       good =
-        record {
-          base =
-            record {
-              once = λ x l. subst (λ (k : List ℕ). count (eqb x) k ≤ 1) (sym (flatten-single (numbers n))) (numbers-once n x);
-              placed = λ x l. subst (λ (k : List ℕ). T (elem x k)) (sym (flatten-single (numbers n))) (mem-elem x (numbers n) (at-mem (numbers n) x x (number-at n x l)));
-            };
-          uniform = λ e l. absurd (omega (arith, l));
-        };
+          record {
+            base =
+                record {
+                  once = λ x l. subst (λ (k : List ℕ). count (eqb x) k ≤ 1) (sym (flatten-single (numbers n))) (numbers-once n x);
+                  placed = λ x l. subst (λ (k : List ℕ). T (elem x k)) (sym (flatten-single (numbers n))) (mem-elem x (numbers n) (at-mem (numbers n) x x (number-at n x l)));
+                };
+            uniform = λ e l. absurd (omega (arith, l));
+          };
       listed = λ g k. alone g (map-mem single (numbers n) g k);
     }
   where

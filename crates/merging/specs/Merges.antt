@@ -29,19 +29,27 @@ pub record MergeRows (c : Counts) (place sizes pre post : List ℕ) : Type 0 whe
   pub starts : (k : ℕ) → k < c .machines → entry place (k * 256 + c .initial) < 64
   pub ends : Ends pre post
 
--- machine m by the new numbers of its places: those of their groups
-pub record MachineMerged (c : Counts) (x : Seen) (m : ℕ) (place sizes place2 sizes2 pre2 post2 earlier2 : List ℕ) : Type 0 where
+-- the new numbers are those of the groups
+pub record NewNumbers (x : Seen) (m size events groups : ℕ) (number : List ℕ) : Type 0 where
   pub bars : List ℕ
-  pub barring : Barring x m (entry sizes m) (c .events) bars
+  pub barring : Barring x m size events bars
+  pub numbered : Numbered bars size groups number
+
+-- the merged places of machine m as sets, by which the common states are narrowed
+pub record MachineMet (sets : List ℕ) (m size : ℕ) (number pre : List ℕ) (events : ℕ) (old new : List ℕ) : Type 0 where
+  pub unions : List ℕ
+  pub united : United sets m size number unions
+  pub narrowed : Narrowed unions pre m events old new
+
+-- machine m by the new numbers of its places
+pub record MachineMerged (c : Counts) (x : Seen) (m : ℕ) (place sizes place2 sizes2 pre2 post2 earlier2 : List ℕ) : Type 0 where
   pub groups : ℕ
   pub number : List ℕ
-  pub numbered : Numbered bars (entry sizes m) groups number
+  pub numbers : NewNumbers x m (entry sizes m) (c .events) groups number
   pub moves : Renumbered number m (c .events) (x .pre) (x .post) pre2 post2
   pub start : place2 ≡ set place (m * 256 + c .initial) (entry number (entry place (m * 256 + c .initial)))
   pub count : sizes2 ≡ set sizes m groups
-  pub unions : List ℕ
-  pub united : United (x .sets) m (entry sizes m) number unions
-  pub narrowed : Narrowed unions pre2 m (c .events) (x .earlier) earlier2
+  pub met : MachineMet (x .sets) m (entry sizes m) number pre2 (c .events) (x .earlier) earlier2
 
 -- the rows of a sheet tell these machines: how many places each has, where it starts, its moves
 pub record SheetTold (v : Input) (ms : Decomposition) (place sizes pre post : List ℕ) : Type 0 where

@@ -24,6 +24,11 @@ pub record Filled (n events : ℕ) (row : List ℕ) : Type 0 where
 pub record SmallSet (f : ℕ → Bool) : Type 0 where
   pub below : (q : ℕ) → T (f q) → q < 64
 
+-- numbers of places, for 64 places
+pub record SmallRow (number : List ℕ) : Type 0 where
+  pub words : length number ≡ 64
+  pub small : (q : ℕ) → q < 64 → entry number q < 64
+
 -- The place `first`, of n, begins a group after the groups gs, `left` being the places in none of them: it grows as `grown` says, its places get the number, and `rest`
 -- are the places still in none.
 pub record Gathered (bars : List ℕ) (left : ℕ → Bool) (first group : ℕ) (old : List ℕ) (rest : ℕ → Bool) (new : List ℕ) : Type 0 where
@@ -35,11 +40,10 @@ pub record Gathered (bars : List ℕ) (left : ℕ → Bool) (first group : ℕ) 
 
 -- the row has the number of each place's group, and there are so many groups
 pub record Numbered (bars : List ℕ) (size groups : ℕ) (number : List ℕ) : Type 0 where
-  pub words : length number ≡ 64
+  pub row : SmallRow number
   pub most : groups ≤ size
   pub count : groups ≡ length (grouped (memberAt bars) size)
   pub each : (q : ℕ) → q < size → entry number q ≡ placeIn (grouped (memberAt bars) size) q
-  pub small : (q : ℕ) → q < 64 → entry number q < 64
 
 unfoldable pub newPre : ℕ → ℕ → ℕ
 newPre p q = cond (eqb p q) 255 p

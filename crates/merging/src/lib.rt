@@ -1,11 +1,12 @@
 // Merge: which places of each machine become one, and the rows of the machines that this leaves.
 ghost use mathlib.Core.Option.{none};
 ghost use mathlib.Core.Path.{_≡_};
-ghost use Prim.Native.Nat.{_*_, _<_, _≤_};
+ghost use Prim.Native.Nat.{suc, _+_, _*_, _<_, _≤_};
 ghost use lib.ListN.{length};
 ghost use Rattle.closure.specs.Covers.{CountsBounded, PlaceSets};
-ghost use Rattle.merging.specs.Bars.{seen, Full};
-ghost use Rattle.merging.specs.Merges.{MergeRows, MachineMerged, MachinesMerged, Merges};
+ghost use Rattle.merging.specs.Bars.{Ends, Full, SeenSizes, seen};
+ghost use Rattle.merging.specs.Numbers.{SmallRow};
+ghost use Rattle.merging.specs.Merges.{NewNumbers, MachineMet, MergeRows, MachineMerged, MachinesMerged, Merges};
 use bars::bar_places;
 use bars::meet_later;
 use closure::FEW_MACHINES;
@@ -30,6 +31,57 @@ mod numbers; // the new number of each place, and the rows with it
 // Four words for each place of a machine, or for each event.
 const WORDS: usize = 256;
 
+// The new numbers of the places of machine m, and how many there are.
+fn new_numbers(
+    sets: &[u64],
+    pre: &[u8],
+    post: &[u8],
+    earlier: &[u64],
+    later: &[u64],
+    excited: &[u64],
+    m: usize,
+    size: usize,
+    events: usize,
+    number: &mut [u8],
+) -> usize
+    requires { ⌜ (m < 16) × (size ≤ 64) × (events ≤ 64) × SmallRow (now number) ⌝ }
+    requires { ⌜ SeenSizes (suc m) events (seen (now sets) (now pre) (now post) (now earlier) (now later) (now excited)) × Ends (now pre) (now post) ⌝ }
+    ensures { λ r. ⌜ NewNumbers (seen (now (sets .entry)) (now (pre .entry)) (now (post .entry)) (now (earlier .entry)) (now (later .entry)) (now (excited .entry))) m size events r (now (number .exit)) ⌝ }
+{
+    let mut bars = [0u64; WORDS];
+    bar_places(
+        sets,
+        pre,
+        post,
+        earlier,
+        later,
+        excited,
+        m,
+        size,
+        events,
+        &mut bars,
+    );
+    number_places(&bars, size, number)
+}
+
+// The states common to the pre-places of each event, now on machine m too, whose places have new numbers.
+fn meet_machine(
+    sets: &[u64],
+    m: usize,
+    size: usize,
+    number: &[u8],
+    pre: &[u8],
+    events: usize,
+    earlier: &mut [u64],
+)
+    requires { ⌜ (m < 16) × (size ≤ 64) × (events ≤ 64) × (m * 256 + 256 ≤ length (now sets)) × SmallRow (now number) × (length (now pre) ≡ 1024) × (length (now earlier) ≡ 256) ⌝ }
+    ensures { λ _. ⌜ MachineMet (now (sets .entry)) m size (now (number .entry)) (now (pre .entry)) events (now (earlier .entry)) (now (earlier .exit)) ⌝ }
+{
+    let mut unions = [0u64; WORDS];
+    unite(sets, m, size, number, &mut unions);
+    narrow_common(&unions, pre, m, events, earlier);
+}
+
 // Machine m with its places merged: its moves, its start and its count of places by the new numbers, and the states still common to the pre-places of each event.
 fn merge_machine(
     c: Counts,
@@ -44,13 +96,13 @@ fn merge_machine(
     earlier: &mut [u64],
 )
     requires { ⌜ (m < c .machines) × CountsBounded c × MergeRows c (now place) (now sizes) (now pre) (now post) ⌝ }
-    requires { ⌜ (c .machines * 256 ≤ length (now sets)) × (c .events * 64 ≤ length (now later)) × (length (now excited) ≡ 256) × (length (now earlier) ≡ 256) ⌝ }
+    requires { ⌜ SeenSizes (c .machines) (c .events) (seen (now sets) (now pre) (now post) (now earlier) (now later) (now excited)) ⌝ }
     ensures { λ _. ⌜ MachineMerged c (seen (now (sets .entry)) (now (pre .entry)) (now (post .entry)) (now (earlier .entry)) (now (later .entry)) (now (excited .entry))) m (now (place .entry)) (now (sizes .entry)) (now (place .exit)) (now (sizes .exit)) (now (pre .exit)) (now (post .exit)) (now (earlier .exit)) ⌝ }
 {
     let events = c.events;
     let size = sizes[m];
-    let mut bars = [0u64; WORDS];
-    bar_places(
+    let mut number = [0u8; MAX_PLACES];
+    let groups = new_numbers(
         sets,
         pre,
         post,
@@ -60,17 +112,13 @@ fn merge_machine(
         m,
         size,
         events,
-        &mut bars,
+        &mut number,
     );
-    let mut number = [0u8; MAX_PLACES];
-    let groups = number_places(&bars, size, &mut number);
     renumber_moves(&number, m, events, pre, post);
     let start = m * MAX_STATES + c.initial;
     place[start] = number[wide(place[start])];
     sizes[m] = groups;
-    let mut unions = [0u64; WORDS];
-    unite(sets, m, size, &number, &mut unions);
-    narrow_common(&unions, pre, m, events, earlier);
+    meet_machine(sets, m, size, &number, pre, events, earlier);
 }
 
 // Each machine in turn, beside the merged ones before it and those after it.
@@ -86,7 +134,7 @@ fn merge_machines(
     earlier: &mut [u64],
 )
     requires { ⌜ CountsBounded c × MergeRows c (now place) (now sizes) (now pre) (now post) ⌝ }
-    requires { ⌜ (c .machines * 256 ≤ length (now sets)) × (c .events * 64 ≤ length (now later)) × (length (now excited) ≡ 256) × (length (now earlier) ≡ 256) ⌝ }
+    requires { ⌜ SeenSizes (c .machines) (c .events) (seen (now sets) (now pre) (now post) (now earlier) (now later) (now excited)) ⌝ }
     ensures { λ _. ⌜ MachinesMerged c (seen (now (sets .entry)) (now (pre .entry)) (now (post .entry)) (now (earlier .entry)) (now (later .entry)) (now (excited .entry))) (now (place .entry)) (now (sizes .entry)) (now (place .exit)) (now (sizes .exit)) (now (pre .exit)) (now (post .exit)) ⌝ }
 {
     let mut m = 0;

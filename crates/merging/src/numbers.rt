@@ -7,7 +7,7 @@ ghost use Rattle.rows.specs.Told.{entry};
 ghost use Rattle.regions.specs.Moves.{MoveRows};
 ghost use Rattle.state_set.specs.Member.{member};
 ghost use Rattle.merging.specs.Bars.{Ends};
-ghost use Rattle.merging.specs.Numbers.{Filled, SmallSet, Gathered, Numbered, United, Renumbered, Narrowed, newPre};
+ghost use Rattle.merging.specs.Numbers.{Filled, SmallRow, SmallSet, Gathered, Numbered, United, Renumbered, Narrowed, newPre};
 use model::MAX_MACHINES;
 use model::MAX_PLACES;
 use regions::NOT_ON;
@@ -72,7 +72,7 @@ fn gather(bars: &[u64], left: StateSet, first: u8, group: u8, number: &mut [u8])
 
 // The number of each place's group, and how many groups there are.
 pub fn number_places(bars: &[u64], size: usize, number: &mut [u8]) -> usize
-    requires { ⌜ (size ≤ 64) × (length (now bars) ≡ 256) × (length (now number) ≡ 64) ⌝ }
+    requires { ⌜ (size ≤ 64) × (length (now bars) ≡ 256) × SmallRow (now number) ⌝ }
     ensures { λ r. ⌜ Numbered (now (bars .entry)) size r (now (number .exit)) ⌝ }
 {
     let mut left = first_numbers(size);
@@ -95,7 +95,8 @@ fn new_pre(p: u8, q: u8) -> u8
 
 // The moves of machine m by the new numbers.
 pub fn renumber_moves(number: &[u8], m: usize, events: usize, pre: &mut [u8], post: &mut [u8])
-    requires { ⌜ (m < 16) × (events ≤ 64) × (length (now number) ≡ 64) × MoveRows (now pre) (now post) × Ends (now pre) (now post) ⌝ }
+    requires { ⌜ (m < 16) × (events ≤ 64) × SmallRow (now number) ⌝ }
+    requires { ⌜ MoveRows (now pre) (now post) × Ends (now pre) (now post) ⌝ }
     ensures { λ _. ⌜ Renumbered (now (number .entry)) m events (now (pre .entry)) (now (post .entry)) (now (pre .exit)) (now (post .exit)) ⌝ }
 {
     let mut e = 0;
@@ -114,7 +115,7 @@ pub fn renumber_moves(number: &[u8], m: usize, events: usize, pre: &mut [u8], po
 
 // The merged places of machine m as sets, in a row of empty sets.
 pub fn unite(sets: &[u64], m: usize, size: usize, number: &[u8], unions: &mut [u64])
-    requires { ⌜ (m < 16) × (size ≤ 64) × (m * 256 + 256 ≤ length (now sets)) × (length (now number) ≡ 64) × ((q : ℕ) → q < size → entry (now number) q < 64) × United (now sets) m 0 (now number) (now unions) ⌝ }
+    requires { ⌜ (m < 16) × (size ≤ 64) × (m * 256 + 256 ≤ length (now sets)) × SmallRow (now number) × United (now sets) m 0 (now number) (now unions) ⌝ }
     ensures { λ _. ⌜ United (now (sets .entry)) m size (now (number .entry)) (now (unions .exit)) ⌝ }
 {
     let mut q = 0;
