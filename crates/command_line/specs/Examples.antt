@@ -3,7 +3,7 @@ use mathlib.Core.Path.{_≡_, refl}
 use mathlib.Core.List.{List, [], _∷_, flatMap, flatten}
 use mathlib.Core.Option.{none, some, orElse}
 use Prim.Native.Nat.{ℕ}
-use Prim.Native.String.{_++_}
+use Prim.Native.String.{String, _++_}
 use Rattle.model.specs.Lists.{exists, every, first, index, count, satisfying, isSome, isEmpty, numbers, elem, lowest}
 use Rattle.model.specs.TransitionSystem.{leads, declared, transitionRefusal, transitionsRefusal, unusedEvent, exits, withTarget, grown, reached, unreachableState, systemRefusal}
 use Rattle.model.specs.Product.{moveFrom, both, oneMore, inAlphabet, effective, fire, fireAll, productStep, blocker, runFrom}
@@ -13,7 +13,8 @@ use Rattle.model.specs.Form.{isMachineLine, isStepLine, startGiven, statesLine,
 use Rattle.model.specs.Text.{eventNumber, valueOf, distinct, inLimit, isDeclared, ended, lineThen, linesFrom, read, lineTwo, nameAt}
 use Rattle.model.specs.Sheet.{addMove, movesBelow, sheetLine, sheetLines, moveBytes, writtenMove, writtenLine, writtenCount, writtenSheet, boardOf, sheet, countForm, moveForm, headForm, lineForm}
 use Rattle.model.specs.Board.{isGoodMove, addName, addNames, namesOn, isGoodLine, machineThen, machinesFrom, countThen, readSheet, moveOn, startPlaces, splitNames, runNames}
-use Rattle.model.specs.Printed.{printedBy, fitting, spaced, printedCheck, nameLine, printedName, ranWord, placesWord, ranLine, printedRun, printedSheet, printedBoard}
+use Rattle.model.specs.Merging.{removed, mergePlaces, mergeMachine, mergeIn, placeCount, mergeable, partner, lowerPlace, mergeWith, mergeLower, mergeFirst, mergeTimes, mergedBelow, merged, mergedInput}
+use Rattle.model.specs.Printed.{printedBy, fitting, spaced, printedCheck, printedMerge, nameLine, printedName, ranWord, placesWord, ranLine, printedRun, printedSheet, printedBoard}
 use Rattle.model.specs.Services.{asFarAs7, asFarAs10, asFarAs12, name, runEvents, printed, writtenAnswer, writtenRefusal}
 use Rattle.model.specs.Examples.{Y, Y0, Y1}
 use Rattle.sheet_examples.specs.Examples.{ySheet}
@@ -40,6 +41,29 @@ unfolding exists every first index count satisfying isSome isEmpty numbers elem 
     printedName ranWord placesWord ranLine printedRun asFarAs7 asFarAs10 asFarAs12 name runEvents printed writtenAnswer writtenRefusal serviceSaid isNumeral
     isNameWord numberSaid eventSaid sizeSaid oneEventSaid before eventsSaid namesOf answerBy answerTo
 answers-on-y = record { no-word = refl; short = refl; named = refl; ran = refl; two-names = refl; capitals = refl }
+
+-- a ring of three states on three machines
+abbrev ring : String
+ring = "(states 3)\n(events a b c)\n(step 0 a 1)\n(step 1 b 2)\n(step 2 c 0)\n(machine (0) (1) (2))\n(machine (0) (1 2))\n(machine (0 1) (2))\n"
+
+-- Of machine 0, places 0 and 1 are left apart: b would be open in state 0. Places 0 and 2 are merged, and c leaves the machine.
+pub record AnswersMerged (r y : List ℕ) : Type 0 where
+  pub fewer : answerTo (bytes "merge" ∷ []) r
+      ≡ some (bytes "(accepted 3)\n(machine 0 (places 2) (start 0) (move a 0 1) (move b 1 0))\n(machine 1 (places 2) (start 0) (move a 0 1) (move c 1 0))\n(machine 2 (places 2) (start 0) (move b 0 1) (move c 1 0))\n")
+  pub short : answerTo (bytes "merge" ∷ bytes "189" ∷ []) r ≡ some (bytes "(refused 13 190 0)\n")
+  pub two-sizes : answerTo (bytes "merge" ∷ bytes "1" ∷ bytes "2" ∷ []) r ≡ none
+  -- no two places of Y can be one
+  pub same : answerTo (bytes "merge" ∷ []) y ≡ answerTo [] y
+
+pub answers-merged : AnswersMerged (bytes ring) (bytes (Y ++ Y0 ++ Y1))
+unfolding exists every first index count satisfying isSome isEmpty numbers elem lowest orElse flatMap flatten leads declared transitionRefusal transitionsRefusal
+    unusedEvent exits withTarget grown reached unreachableState systemRefusal inAlphabet effective placeIn places crosses move duplicateState unplacedState transitionsOf enters allOrNone uniform nonuniformEvent
+    ineffectiveEvent inPre ready common excited openState openEvent closureRefusal machineRefusal machinesRefusal coverRefusal isDigit isLetter isNameByte isFigure isName digits numeral
+    numeralUpTo isMachineLine isStepLine startGiven statesLine spacedName eventsLine stepLine spacedFigure place machineLine lineAfter eventNumber valueOf distinct inLimit isDeclared ended
+    lineThen linesFrom read addMove movesBelow sheetLine sheetLines moveBytes writtenMove writtenLine writtenCount writtenSheet boardOf sheet removed mergePlaces mergeMachine mergeIn placeCount
+    mergeable partner lowerPlace mergeWith mergeLower mergeFirst mergeTimes mergedBelow merged mergedInput printedBy fitting printedMerge asFarAs7 asFarAs10 asFarAs12 printed writtenAnswer
+    writtenRefusal serviceSaid isNumeral numberSaid sizeSaid answerBy answerTo
+answers-merged = record { fewer = refl; short = refl; two-sizes = refl; same = refl }
 
 pub record AnswersOnSheet (y : List ℕ) : Type 0 where
   pub written : answerTo (bytes "sheet" ∷ []) y ≡ some y

@@ -30,6 +30,7 @@ pub enum Service {
     Name,
     Run,
     Thin,
+    Merge,
     Sheet,
     Board,
     Help,
@@ -80,6 +81,9 @@ fn service_said(word: &[u8]) -> Service
     }
     if same_word(word, b"thin") {
         return Service::Thin;
+    }
+    if same_word(word, b"merge") {
+        return Service::Merge;
     }
     if same_word(word, b"sheet") {
         return Service::Sheet;
