@@ -52,11 +52,17 @@ is-numeral-requires-3 c κs = search needs
 enum-told-8 : tie.Need-enum-told-8
 enum-told-8 c = search needs
 
+is-numeral-requires-4 : tie.Need-is-numeral-requires-4
+is-numeral-requires-4 c κs = search needs
+
 enum-told-9 : tie.Need-enum-told-9
 enum-told-9 c = search needs
 
 enum-told-10 : tie.Need-enum-told-10
 enum-told-10 c = search needs
+
+enum-told-11 : tie.Need-enum-told-11
+enum-told-11 c = search needs
 
 returns : tie.Need-returns
 unfolding takes
@@ -88,7 +94,7 @@ returns-7 c = rw (c .before .enum-told7 .given .1, c .is-numeral3 .ensures)
 
 returns-8 : tie.Need-returns-8
 unfolding takes
-returns-8 c = rw (c .enum-told8 .given .1)
+returns-8 c = rw (c .before .enum-told8 .given .1, c .is-numeral4 .ensures)
 
 returns-9 : tie.Need-returns-9
 unfolding takes
@@ -97,6 +103,10 @@ returns-9 c = rw (c .enum-told9 .given .1)
 returns-10 : tie.Need-returns-10
 unfolding takes
 returns-10 c = rw (c .enum-told10 .given .1)
+
+returns-11 : tie.Need-returns-11
+unfolding takes
+returns-11 c = rw (c .enum-told11 .given .1)
 
 pub takes-spec : {M : Type 1} → statement M
 takes-spec =
@@ -118,8 +128,10 @@ takes-spec =
     enum-told-7
     is-numeral-requires-3
     enum-told-8
+    is-numeral-requires-4
     enum-told-9
     enum-told-10
+    enum-told-11
     returns
     returns-2
     returns-3
@@ -129,4 +141,5 @@ takes-spec =
     returns-7
     returns-8
     returns-9
-    returns-10)
+    returns-10
+    returns-11)
