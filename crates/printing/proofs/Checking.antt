@@ -14,10 +14,12 @@ use Rattle.model.specs.Cases.{tabled}
 use Rattle.model.specs.Refusal.{Refusal, refuse, Checked, refused, passed, need, _>>=_, _>>_}
 use Rattle.model.specs.Sheet.{Board, writtenSheet, sheet}
 use Rattle.model.specs.Text.{Input}
-use Rattle.model.specs.Services.{asFarAs12, Lent, lend, check, writtenRefusal, writtenAnswer, printed}
+use Rattle.model.specs.Merging.{mergedInput}
+use Rattle.model.specs.Services.{asFarAs12, Lent, lend, check, merge, writtenRefusal, writtenAnswer, printed}
 use Rattle.model.specs.Board.{readSheet, rewrite}
-use Rattle.model.specs.Printed.{printedBy, fitting, printedCheck, printedSheet}
+use Rattle.model.specs.Printed.{printedBy, fitting, printedCheck, printedMerge, printedSheet}
 use Rattle.model.proofs.Demands.{demand1, demand2}
+use Rattle.model.proofs.Merges.{merges-hold}
 use Rattle.answers.specs.declared.Answer.{Answer}
 use Rattle.answers.specs.declared.Answer.the-variants.{Refused, Accepted}
 use Rattle.answers.specs.Answers.{answered}
@@ -112,6 +114,26 @@ whole-sheet s = go (asFarAs12 s) refl
     go : (c : Checked Input) → asFarAs12 s ≡ c → printedCheck s 32768 ≡ printed s
     go (refused r) e = rw e
     go (passed v) e = rw e (sym (printed-all _ 32768 (sheet v) (check-fits s v e)))
+
+-- ---- the sheet of the merged split
+
+-- a buffer of its own length is enough for it, and what is written in one is no longer than 32,768 bytes
+merge-fits : (s : List ℕ) (v : Input) → asFarAs12 s ≡ passed v → length (sheet (mergedInput v)) ≤ 32768
+unfolding merge
+merge-fits s v e =
+    let w = sheet (mergedInput v) in
+    let passes : merge s w .answer ≡ passed (length w) = rw e (ap (λ (l : Lent ℕ). l .answer) (lent-all w w (omega arith))) in
+    let found = merges-hold s .lends w .accepts (length w) .0 passes in
+    omega (arith, found .2, ap (λ (x : Input). length (sheet x)) (found .1 .same), found .1 .merged .fits)
+
+module _ (s out : List ℕ) (h : length out ≡ 32768) {a : Checked ℕ} {left : List ℕ} where
+  pub merge-left : (a ≡ merge s out .answer) × (left ≡ merge s out .left) → FitsBuffer a
+  unfolding merge
+  merge-left l = left-fits (asFarAs12 s) (λ v. sheet (mergedInput v)) (merge-fits s) out h l
+
+  pub merge-printed : (lent : ℕ) → (a ≡ merge s out .answer) × (left ≡ merge s out .left) → lentLine lent a left ≡ printedMerge s lent
+  unfolding merge printedMerge
+  merge-printed lent l = left-printed (asFarAs12 s) (λ v. sheet (mergedInput v)) (merge-fits s) out h lent l
 
 -- ---- the sheet that is read
 

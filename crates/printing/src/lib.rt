@@ -5,7 +5,7 @@ ghost use Prim.Native.Nat.{_+_, _*_, _≤_};
 ghost use lib.ListN.{length, take};
 ghost use Rattle.model.specs.Cases.{tabled};
 ghost use Rattle.model.specs.Services.{writtenRefusal};
-ghost use Rattle.model.specs.Printed.{printedCheck, transitionLine, printedSteps, printedName, placesWord, printedRun, joined, printedThin, printedSheet, printedBoard};
+ghost use Rattle.model.specs.Printed.{printedCheck, transitionLine, printedSteps, printedName, placesWord, printedRun, joined, printedThin, printedMerge, printedSheet, printedBoard};
 ghost use Rattle.rows.specs.Told.{firstTransitions};
 ghost use Rattle.stages.specs.Stages.{ReadAsFarAs7, ReadAsFarAs12};
 ghost use Rattle.writers.specs.Written.{Writes};
@@ -16,6 +16,7 @@ use answers::Answer;
 use answers::numbers;
 use board_service::run_board;
 use check_service::check;
+use merge_service::merge;
 use model::MAX_MACHINES;
 use model::Refusal;
 use name_service::name_in_plan;
@@ -63,6 +64,15 @@ pub fn print_check(text: &[u8], lent: usize, out: &mut [u8]) -> usize
 {
     let answer = check(text, out);
     print_lent(answer, lent, out)
+}
+
+// The sheet of the merged split.
+pub fn print_merge(text: &[u8], lent: usize, out: &mut [u8]) -> usize
+    requires { ⌜ length (now out) ≡ 32768 ⌝ }
+    ensures { λ r. ⌜ Shows (printedMerge (now (text .entry)) lent) r (now (out .exit)) ⌝ }
+{
+    let merged = merge(text, out);
+    print_lent(merged, lent, out)
 }
 
 // The machines of a sheet, written again.

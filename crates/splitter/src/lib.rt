@@ -5,6 +5,7 @@ pub use answers::numbers;
 pub use board_service::board;
 pub use board_service::sheet;
 pub use check_service::check;
+pub use merge_service::merge;
 pub use name_service::name;
 pub use name_service::name_refusal;
 pub use product::Outcome;
