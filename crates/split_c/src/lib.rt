@@ -17,6 +17,7 @@ use rows::Verdict;
 use splitter::Thinned;
 use splitter::board;
 use splitter::check;
+use splitter::merge;
 use splitter::numbers;
 use splitter::run;
 use splitter::sheet;
@@ -116,6 +117,15 @@ pub extern "C" fn split_thin(text: &[u8]) -> SplitSet
             size,
         },
     }
+}
+
+// What merge answers is flat as what check answers.
+#[no_mangle]
+pub extern "C" fn split_merge(text: &[u8], out: &mut [u8]) -> FlatAnswer
+    ensures { λ r. ⌜ r ≡ flatAnswer (Services.merge (now (text .entry)) (now (out .entry)) .answer) ⌝ }
+    ensures { λ _. ⌜ now (out .exit) ≡ Services.merge (now (text .entry)) (now (out .entry)) .left ⌝ }
+{
+    flat_answer(merge(text, out))
 }
 
 // The two calls on a sheet, as a board has them (board_c).
