@@ -14,12 +14,13 @@ use Rattle.model.specs.Product.{Ran}
 use Rattle.model.specs.Bytes.{bytes}
 use Rattle.model.specs.Sheet.{writtenCount, writtenSheet, boardOf, sheet}
 use Rattle.model.specs.Sheet as Sheets
+use Rattle.model.specs.Merging.{mergedInput}
 use Rattle.model.specs.Board.{readSheet, runBoard}
 use Rattle.model.specs.BoardTable.{ended}
 use Rattle.model.specs.Services.{Part, Kept, asFarAs7, asFarAs12, name, runInput, thin, writtenRefusal}
-use Rattle.model.specs.Printed.{printedBy, fitting, printedCheck, transitionLines, printedSteps, nameLine, printedName, ranWord, placesWord, ranLine, printedRun, keptLine, printedThin, printedSheet, printedBoard}
+use Rattle.model.specs.Printed.{printedBy, fitting, printedCheck, transitionLines, printedSteps, nameLine, printedName, ranWord, placesWord, ranLine, printedRun, keptLine, printedThin, printedMerge, printedSheet, printedBoard}
 use Rattle.command_line.specs.declared.Service.{Service}
-use Rattle.command_line.specs.declared.Service.the-variants.{Check, Steps, Name, Run, Thin, Sheet, Board, Help, Explain, Unknown}
+use Rattle.command_line.specs.declared.Service.the-variants.{Check, Steps, Name, Run, Thin, Merge, Sheet, Board, Help, Explain, Unknown}
 use Rattle.command_line.specs.Words.{serviceSaid}
 use Rattle.command_line.specs.Program.{sizeSaid, oneEventSaid, eventsSaid, namesOf, answerThin, answerBy, answerTo}
 use Rattle.model.proofs.Laws.{order}
@@ -78,6 +79,10 @@ check-speaks : (s : List ℕ) (lent : ℕ) → 0 < length (printedCheck s lent)
 unfolding printedCheck sheet
 check-speaks s lent = lent-speaks boardOf lent (asFarAs12 s)
 
+merge-speaks : (s : List ℕ) (lent : ℕ) → 0 < length (printedMerge s lent)
+unfolding printedMerge sheet
+merge-speaks s lent = lent-speaks (λ v. boardOf (mergedInput v)) lent (asFarAs12 s)
+
 sheet-printed : (s : List ℕ) (lent : ℕ) → 0 < length (printedSheet s lent)
 unfolding printedSheet
 sheet-printed s lent = lent-speaks (λ b. b) lent (readSheet s)
@@ -113,6 +118,7 @@ by-answer Name ws s word e =
 by-answer Run ws s word e =
     mapped (printedRun s) (λ es. printed-speaks ranLine run-speaks (asFarAs12 s >>= λ v. runInput v es)) (eventsSaid (namesOf (asFarAs7 s)) ws) word e
 by-answer Thin ws s word e = thin-answer ws s word e
+by-answer Merge ws s word e = mapped (printedMerge s) (merge-speaks s) (sizeSaid 32768 ws) word e
 by-answer Sheet ws s word e = mapped (printedSheet s) (sheet-printed s) (sizeSaid 32768 ws) word e
 by-answer Board ws s word e = mapped (printedBoard s) (board-printed s) (some (flatMap ended ws)) word e
 by-answer Help ws s word e = nothing-said e

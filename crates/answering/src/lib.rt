@@ -2,7 +2,7 @@
 ghost use mathlib.Core.Path.{_≡_};
 ghost use lib.ListN.{length};
 ghost use Rattle.printing.specs.Shown.{Shows};
-ghost use Rattle.command_line.specs.declared.Service.the-variants.{Check, Steps, Name, Run, Thin, Sheet, Board};
+ghost use Rattle.command_line.specs.declared.Service.the-variants.{Check, Steps, Name, Run, Thin, Merge, Sheet, Board};
 ghost use Rattle.command_line.specs.WordRow.{wordsIn, EachEnded};
 ghost use Rattle.answering.specs.Known.{knownNames};
 ghost use Rattle.command_line.specs.Program.{answerBy, answerTo, outputOf};
@@ -18,6 +18,7 @@ use model::MAX_TEXT;
 use model::MAX_TRANSITIONS;
 use printing::print_board;
 use printing::print_check;
+use printing::print_merge;
 use printing::print_name;
 use printing::print_run;
 use printing::print_sheet;
@@ -101,6 +102,16 @@ fn answer_thin(words: &[u8], text: &[u8], out: &mut [u8]) -> usize
     print_thin(text, out)
 }
 
+fn answer_merge(words: &[u8], text: &[u8], out: &mut [u8]) -> usize
+    requires { ⌜ length (now out) ≡ 32768 ⌝ }
+    ensures { λ r. ⌜ Shows (outputOf (answerBy Merge (wordsIn (now (words .entry))) (now (text .entry)))) r (now (out .exit)) ⌝ }
+{
+    let Said::Number(size) = size_said(words, MAX_TEXT) else {
+        return 0;
+    };
+    print_merge(text, size, out)
+}
+
 fn answer_sheet(words: &[u8], sheet: &[u8], out: &mut [u8]) -> usize
     requires { ⌜ length (now out) ≡ 32768 ⌝ }
     ensures { λ r. ⌜ Shows (outputOf (answerBy Sheet (wordsIn (now (words .entry))) (now (sheet .entry)))) r (now (out .exit)) ⌝ }
@@ -130,6 +141,7 @@ fn answer_by(asked: Service, words: &mut [u8], text: &[u8], out: &mut [u8]) -> u
         Service::Name => answer_name(words, text, out),
         Service::Run => answer_run(words, text, out),
         Service::Thin => answer_thin(words, text, out),
+        Service::Merge => answer_merge(words, text, out),
         Service::Sheet => answer_sheet(words, text, out),
         Service::Board => answer_board(words, text, out),
         Service::Help => 0,
