@@ -126,12 +126,12 @@ merge-fits s v e =
     let found = merges-hold s .lends w .accepts (length w) .0 passes in
     omega (arith, found .2, ap (λ (x : Input). length (sheet x)) (found .1 .same), found .1 .merged .fits)
 
-module _ (s out : List ℕ) (h : length out ≡ 32768) {a : Checked ℕ} {left : List ℕ} where
-  pub merge-left : (a ≡ merge s out .answer) × (left ≡ merge s out .left) → FitsBuffer a
+module _ (s out : List ℕ) (h : length out ≡ 32768) {a : Checked ℕ} where
+  pub merge-left : a ≡ merge s out .answer → FitsBuffer a
   unfolding merge
-  merge-left l = left-fits (asFarAs12 s) (λ v. sheet (mergedInput v)) (merge-fits s) out h l
+  merge-left e = left-fits (asFarAs12 s) (λ v. sheet (mergedInput v)) (merge-fits s) out h (e, refl)
 
-  pub merge-printed : (lent : ℕ) → (a ≡ merge s out .answer) × (left ≡ merge s out .left) → lentLine lent a left ≡ printedMerge s lent
+  pub merge-printed : {left : List ℕ} (lent : ℕ) → (a ≡ merge s out .answer) × (left ≡ merge s out .left) → lentLine lent a left ≡ printedMerge s lent
   unfolding merge printedMerge
   merge-printed lent l = left-printed (asFarAs12 s) (λ v. sheet (mergedInput v)) (merge-fits s) out h lent l
 

@@ -1,17 +1,16 @@
--- `printing::print_merge` meets its contract: what the call left is what is printed.
+-- `printing::print_merge` meets its contract: what the call left is what is printed. The call is not named, so that another in its place fails by
+-- what it answers (must-fail).
 use borrow.Author.Needs.{needs}
+use denote.Ref.{now}
 use Rattle.printing.proofs.Showing.{shows-same}
 use Rattle.printing.proofs.Checking.{merge-left, merge-printed}
 use Rattle.printing.proofs.print_merge.Statement.{statement}
 use Rattle.printing.proofs.print_merge.Tie as tie
 
-merge-requires : tie.Need-merge-requires
-merge-requires c κs = search needs
-
 print-lent-requires : tie.Need-print-lent-requires
 print-lent-requires c κs =
-    let called = c .before .before .before in
-    (search needs, merge-left _ _ (called .before .before .before .before .pre) (called .merge .ensures .0, called .merge .ensures .1))
+    let given = c .before .before .before .before .before .before .before in
+    (search needs, merge-left (now (given .args .text)) (now (given .args .out)) (given .pre) (search needs))
 
 same-length : tie.Need-same-length
 same-length c = search needs
@@ -19,8 +18,8 @@ same-length c = search needs
 returns : tie.Need-returns
 returns c =
     let printed = c .before .before in
-    let called = printed .before .before .before .before in
-    shows-same (merge-printed _ _ (called .before .before .before .before .pre) _ (called .merge .ensures .0, called .merge .ensures .1)) (printed .print-lent .ensures)
+    let given = printed .before .before .before .before .before .before .before .before in
+    shows-same (merge-printed (now (given .args .text)) (now (given .args .out)) (given .pre) (given .args .lent) (search needs, search needs)) (printed .print-lent .ensures)
 
 pub print-merge-spec : {M : Type 1} → statement M
-print-merge-spec = tie.close (tie.spec merge-requires print-lent-requires same-length returns)
+print-merge-spec = tie.close (tie.spec (λ c κs. search needs) print-lent-requires same-length returns)
