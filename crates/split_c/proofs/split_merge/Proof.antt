@@ -1,12 +1,10 @@
--- `split_c::split_merge` meets its contract: what `merge` answers, flat.
+-- `split_c::split_merge` meets its contract: what is called answers as the model's merge does, and is made flat. The call is not named, so that
+-- another in its place fails by what it answers (must-fail).
 use borrow.Author.Needs.{needs}
 use mathlib.Core.Path.{ap, _∙_}
 use Rattle.flat.specs.Flat.{flatAnswer}
 use Rattle.split_c.proofs.split_merge.Statement.{statement}
 use Rattle.split_c.proofs.split_merge.Tie as tie
-
-merge-requires : tie.Need-merge-requires
-merge-requires c κs = search needs
 
 flat-answer-requires : tie.Need-flat-answer-requires
 flat-answer-requires c κs = search needs
@@ -15,9 +13,7 @@ same-length : tie.Need-same-length
 same-length c = search needs
 
 returns : tie.Need-returns
-returns c =
-    let told = c .before .before .before .merge .ensures in
-    (c .flat-answer .ensures ∙ ap flatAnswer (told .0), told .1)
+returns c = (c .flat-answer .ensures ∙ ap flatAnswer (search needs), search needs)
 
 pub split-merge-spec : {M : Type 1} → statement M
-split-merge-spec = tie.close (tie.spec merge-requires flat-answer-requires same-length returns)
+split-merge-spec = tie.close (tie.spec (λ c κs. search needs) flat-answer-requires same-length returns)
