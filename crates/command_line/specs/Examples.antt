@@ -1,4 +1,4 @@
--- What the program answers on the plan Y and on its sheet, by computation.
+-- What the program answers on the plan Y, on a ring that is merged, and on the sheet of Y, by computation.
 use mathlib.Core.Path.{_≡_, refl}
 use mathlib.Core.List.{List, [], _∷_, flatMap, flatten}
 use mathlib.Core.Option.{none, some, orElse}
