@@ -1,4 +1,4 @@
-//! All seven services of the proved library on the text on standard input, from Rust.
+//! All eight services of the proved library on the text on standard input, from Rust.
 //! examples/again builds and runs it.
 use std::io::{self, Read, Write};
 
@@ -41,6 +41,10 @@ fn main() -> io::Result<()> {
     print!("{} machines are kept:", kept.size);
     (0..16).filter(|i| kept.machines >> i & 1 == 1).for_each(|i| print!(" {i}"));
     println!();
+
+    let mut merged = [0; 32_768];
+    let fewer = split::merge(&text, &mut merged);
+    println!("the sheet with places merged has {} bytes", fewer.size);
 
     let mut again = [0; 32_768];
     let loaded = split::sheet(&sheet[..checked.size], &mut again);

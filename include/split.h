@@ -1,4 +1,4 @@
-/* The splitter's seven services, proved: each answers and writes what crates/split_c/src/lib.rt
+/* The splitter's eight services, proved: each answers and writes what crates/split_c/src/lib.rt
  * promises, for any bytes. For C11 and C++11, and later; include/split.rs has the same for Rust.
  * include/board.h has the last two alone, for a program that has sheets only.
  *
@@ -18,9 +18,10 @@
  *     split_name     8,192    22,528
  *     split_run     15,360    61,440
  *     split_thin    15,360    92,160
+ *     split_merge        0         0
  *     split_sheet    6,144     6,144
  *     split_board    7,168     6,144
- *     all seven     28,672    92,160
+ *     all eight     28,672    92,160
  *
  * Both are measured, not proved, and rounded up; tests/library/check measures again. Code is what
  * the library adds to a program that calls this service only, linked with --gc-sections, its
@@ -119,6 +120,11 @@ struct split_run_answer split_run(const uint8_t *text, size_t text_len, const ui
 
 /* Drops machines that add nothing, from the highest to the lowest. */
 struct split_set split_thin(const uint8_t *text, size_t text_len);
+
+/* Fewer places: merges two of a machine wherever 11 and 12 still pass, from the lowest machine and
+ * pair on, and writes the merged split's sheet into the first bytes of out. 32,768 always suffice;
+ * 13 has the size needed. */
+struct split_answer split_merge(const uint8_t *text, size_t text_len, uint8_t *out, size_t out_len);
 
 /* Loads a sheet and writes it again, into the first bytes of out: the same bytes, if the sheet is
  * good. 32,768 always suffice; 13 has the size needed. Refused by 13 and 15 only. */

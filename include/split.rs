@@ -102,6 +102,7 @@ unsafe extern "C" {
     pub fn split_name(text: *const u8, text_len: usize, event: usize) -> Name;
     pub fn split_run(text: *const u8, text_len: usize, events: *const u8, events_len: usize) -> Run;
     pub fn split_thin(text: *const u8, text_len: usize) -> Set;
+    pub fn split_merge(text: *const u8, text_len: usize, out: *mut u8, out_len: usize) -> Answer;
     pub fn split_sheet(sheet: *const u8, sheet_len: usize, out: *mut u8, out_len: usize) -> Answer;
     pub fn split_board(sheet: *const u8, sheet_len: usize, names: *const u8, names_len: usize) -> Run;
 }
@@ -124,6 +125,10 @@ pub fn run(text: &[u8], events: &[u8]) -> Run {
 
 pub fn thin(text: &[u8]) -> Set {
     unsafe { split_thin(text.as_ptr(), text.len()) }
+}
+
+pub fn merge(text: &[u8], out: &mut [u8]) -> Answer {
+    unsafe { split_merge(text.as_ptr(), text.len(), out.as_mut_ptr(), out.len()) }
 }
 
 pub fn sheet(sheet: &[u8], out: &mut [u8]) -> Answer {

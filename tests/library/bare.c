@@ -1,4 +1,4 @@
-/* The library without an operating system's library: asks for all seven services and looks at each field. It ends with
+/* The library without an operating system's library: asks for all eight services and looks at each field. It ends with
  * status 0, or with a bit for each service that answered otherwise. */
 #include "split.h"
 #include "bare.h"
@@ -59,6 +59,23 @@ static int thins(void)
     return FORKED(fork) && fork.machines == 0 && fork.size == 0 && ANSWERED(both) && both.machines == 3 && both.size == 2;
 }
 
+/* Two machines alike: the first gives all its places away. */
+static int merges(void)
+{
+    static const char twice[] = "(states 2)\n(events a b)\n(step 0 a 1)\n(step 1 b 0)\n"
+                                "(machine (0) (1))\n(machine (0) (1))\n";
+    static const char merged[] = "(accepted 2)\n(machine 0 (places 1) (start 0))\n"
+                                 "(machine 1 (places 2) (start 0) (move a 0 1) (move b 1 0))\n";
+    uint8_t out[sizeof merged] = {0};
+    struct split_answer fork = split_merge(TEXT(forked), out, sizeof out);
+    struct split_answer asked = split_merge(TEXT(twice), out, sizeof merged - 2);
+    int kept = out[0] == 0;
+    struct split_answer written = split_merge(TEXT(twice), out, sizeof out);
+    return FORKED(fork) && fork.size == 0 && asked.number == SPLIT_SHORT_SHEET && asked.detail == sizeof merged - 1 &&
+           asked.second == 0 && asked.size == 0 && kept && ANSWERED(written) && written.size == sizeof merged - 1 &&
+           same(out, merged, sizeof merged);
+}
+
 static int loads(void)
 {
     uint8_t out[sizeof sheet] = {0};
@@ -87,5 +104,5 @@ static int boards(void)
 static int failures(void)
 {
     return (checks() ? 0 : 1) | (lists() ? 0 : 2) | (names() ? 0 : 4) | (runs() ? 0 : 8) | (thins() ? 0 : 16) |
-           (loads() ? 0 : 32) | (boards() ? 0 : 64);
+           (merges() ? 0 : 32) | (loads() ? 0 : 64) | (boards() ? 0 : 128);
 }
