@@ -2,7 +2,8 @@
 use crate::call::Call;
 use crate::split::Step;
 use crate::RULES;
-use reference::{Ran, Refusal};
+use reference::{Ran, Refusal, TEXT_BOUND};
+use std::cell::RefCell;
 
 /// As the independent program prints it: by itself if it takes these names, which have to be text, each ended.
 fn boarded(list: &[u8], sheet: &[u8]) -> Vec<u8> {
@@ -19,11 +20,38 @@ fn boarded(list: &[u8], sheet: &[u8]) -> Vec<u8> {
     printed.into_bytes()
 }
 
+type Merged = Result<Vec<u8>, Refusal>;
+
+thread_local! {
+    static LAST: RefCell<Option<(Vec<u8>, Merged)>> = const { RefCell::new(None) };
+}
+
+/// The merged split's sheet. It is the one answer that takes long to find, so it is found once for calls in a row.
+pub fn merged(text: &[u8]) -> Merged {
+    LAST.with_borrow_mut(|last| match last {
+        Some((same, found)) if same == text => found.clone(),
+        _ => {
+            let found = reference::merge(RULES, text, usize::MAX);
+            *last = Some((text.to_vec(), found.clone()));
+            found
+        }
+    })
+}
+
+fn merged_in(text: &[u8], lent: Option<&usize>) -> Vec<u8> {
+    match merged(text) {
+        Ok(sheet) if sheet.len() <= lent.copied().unwrap_or(TEXT_BOUND) => sheet,
+        Ok(sheet) => format!("(refused 13 {} 0)\n", sheet.len()).into_bytes(),
+        Err(Refusal(number, detail, second)) => format!("(refused {number} {detail} {second})\n").into_bytes(),
+    }
+}
+
 /// The printed answer, and no other than one known beforehand.
 pub fn expected(call: &Call, text: &[u8]) -> Vec<u8> {
     let figures = || call.numbers(text).iter().map(usize::to_string).collect::<Vec<_>>();
     let answer = match call.service() {
         "board" => boarded(&call.list, text),
+        "merge" => merged_in(text, call.numbers(text).first()),
         service => reference::answer(RULES, service, &figures(), text),
     };
     if let Some(known) = &call.known {
@@ -62,6 +90,8 @@ pub enum Told {
     /// How many ran and the machine that blocked, if one did; the place of each machine.
     Ran(Option<(usize, usize)>, Vec<usize>),
     Kept(Vec<usize>),
+    /// The merged split's sheet.
+    Merged(Vec<u8>),
 }
 
 impl Told {
@@ -72,6 +102,7 @@ impl Told {
         let line = printed.strip_suffix(b"\n").expect("a line that ends");
         match call.service() {
             "check" | "sheet" => Told::Sheet(printed.to_vec()),
+            "merge" => Told::Merged(printed.to_vec()),
             "steps" => Told::Steps(figures(line)[1..].chunks(3).map(Step::new).collect()),
             "name" => Told::Name(line.to_vec()),
             "run" | "board" => {

@@ -1,7 +1,9 @@
 //! Sheets as they are put together, and good ones of their own, which need not be those of any text.
+use crate::answer::class;
 use crate::call::{board, call, names, Call, Task};
 use crate::dice::Dice;
 use crate::draft::alike;
+use crate::machines::{after, Machine as Loaded, Plan};
 use std::collections::BTreeSet;
 
 mod defects;
@@ -88,20 +90,58 @@ pub fn good(dice: &mut Dice) -> Sheet {
     Sheet { count, machines }
 }
 
-/// The sheet of an accepted text: it is written again as it is, and the lists of the text's calls run on it as on the
-/// text. Of these one goes to the program.
-pub fn of_text(text: &[u8], sheet: &[u8], runs: &[(Call, Vec<u8>)]) -> Task {
+fn shown(bytes: &[u8]) -> String {
+    String::from_utf8_lossy(bytes).into_owned()
+}
+
+/// A sheet of an accepted text: it is written again as it is, and the lists of the text's calls run on it, by name. Of
+/// these one goes to the program.
+fn of_sheet(kind: &'static str, text: &[u8], sheet: &[u8], runs: &[(Call, String)]) -> Task {
     let names = names(text);
     let named = |word: &String| match word.parse::<usize>() {
         Ok(event) => names.get(event).unwrap_or(word).clone() + "\n",
         Err(_) => word.clone() + "\n",
     };
-    let shown = |bytes: &[u8]| String::from_utf8_lossy(bytes).into_owned();
     let mut calls = vec![call("sheet").giving(&shown(sheet))];
-    for (run, printed) in runs {
-        let call = board(run.arguments().iter().map(named).collect::<String>()).giving(&shown(printed));
+    for (run, answer) in runs {
+        let call = board(run.arguments().iter().map(named).collect::<String>()).giving(answer);
         let is_first = calls.len() == 1;
         calls.push(if is_first { call } else { call.by_library() });
     }
-    Task::new("sheet of a text", sheet, calls)
+    Task::new(kind, sheet, calls)
+}
+
+/// They run as on the text.
+pub fn of_text(text: &[u8], sheet: &[u8], runs: &[(Call, Vec<u8>)]) -> Task {
+    let runs: Vec<(Call, String)> = runs.iter().map(|(run, printed)| (run.clone(), shown(printed))).collect();
+    of_sheet("sheet of a text", text, sheet, &runs)
+}
+
+/// As many of them run as on the text, which the printed answer says; where the machines stand then, and which of them
+/// blocks, is said by the moves of the merged sheet.
+pub fn of_merged(text: &[u8], sheet: &[u8], runs: &[(Call, Vec<u8>)]) -> Task {
+    let machines = Plan::of(text).machines_on(sheet).expect("a sheet");
+    let all: Vec<&Loaded> = machines.iter().collect();
+    let answer = |(run, printed): &(Call, Vec<u8>)| {
+        if class(printed) > 0 {
+            return (run.clone(), shown(printed));
+        }
+        let printed = shown(printed);
+        let events = run.numbers(text);
+        let blocked = printed.strip_prefix("(blocked ").and_then(|rest| rest.split(' ').next());
+        let ran = blocked.map_or(events.len(), |figure| figure.parse().expect("a figure"));
+        let mut at: Vec<usize> = all.iter().map(|machine| machine.start).collect();
+        events[..ran].iter().for_each(|event| at = after(&all, &at, *event).expect("an event that runs"));
+        let blocks = |m: &usize| all[*m].moves[events[ran]].is_some_and(|(pre, _)| pre != at[*m]);
+        let places: String = at.iter().map(|place| format!(" {place}")).collect();
+        let answer = match blocked {
+            None => format!("(whole (places{places}))\n"),
+            Some(_) => {
+                let machine = (0..all.len()).find(blocks).expect("a machine that blocks");
+                format!("(blocked {ran} {machine} (places{places}))\n")
+            }
+        };
+        (run.clone(), answer)
+    };
+    of_sheet("merged sheet of a text", text, sheet, &runs.iter().map(answer).collect::<Vec<_>>())
 }

@@ -30,6 +30,8 @@ mod lent;
 mod library;
 mod limits;
 mod machines;
+mod merged;
+mod merging;
 mod products;
 mod program;
 mod redundant;
@@ -47,7 +49,7 @@ mod words;
 mod written;
 
 /// How many requests of document 02 are in force.
-const RULES: reference::Rules = reference::Rules(3);
+const RULES: reference::Rules = reference::Rules(4);
 
 /// A process for each call is what takes the time, and there is a wait in each.
 const WORKERS: usize = 4;
@@ -60,11 +62,28 @@ enum Job {
     Calls(Task),
 }
 
-/// What the program printed of a text: its sheet and the machines that thinning keeps.
+/// What the program printed of a text: its sheet, the machines that thinning keeps, and the merged sheet.
 #[derive(Default)]
 struct Printed {
     sheet: Vec<u8>,
     kept: Option<Vec<usize>>,
+    merged: Option<Vec<u8>>,
+}
+
+impl Printed {
+    fn take(&mut self, call: &Call, stdout: &[u8]) {
+        match call.service() {
+            "thin" => self.kept = self.kept.take().or_else(|| answer::kept(stdout)),
+            "merge" if call.arguments().is_empty() => self.merged = Some(stdout.to_vec()),
+            _ => {}
+        }
+    }
+
+    fn walked(&self, text: &[u8]) -> Result<usize, String> {
+        let pairs = walking::accepted(text, &self.sheet, self.kept.as_deref())?;
+        let merged = self.merged.as_ref().map_or(Ok(0), |sheet| walking::merged(text, sheet))?;
+        Ok(pairs + merged)
+    }
 }
 
 /// A call, and what the independent program and the program print; nothing if the program is not asked.
@@ -97,6 +116,29 @@ fn compare_on_sheet(task: &Task, program: &Program, watchdog: &Watchdog, report:
     }
 }
 
+/// What the independent program answers to the calls on an accepted text, for its sheets on boards.
+#[derive(Default)]
+struct Accepted {
+    sheet: Vec<u8>,
+    merged: Option<Vec<u8>>,
+    runs: Vec<(Call, Vec<u8>)>,
+}
+
+impl Accepted {
+    fn take(&mut self, call: &Call, Asked { expected, told, .. }: Asked) {
+        match (call.service(), told) {
+            ("run", _) => self.runs.push((call.clone(), expected)),
+            (_, Told::Merged(sheet)) if sheet != self.sheet => self.merged = Some(sheet),
+            _ => {}
+        }
+    }
+
+    fn on_boards(&self, text: &[u8]) -> Vec<Task> {
+        let merged = self.merged.iter().map(|sheet| boards::of_merged(text, sheet, &self.runs));
+        std::iter::once(boards::of_text(text, &self.sheet, &self.runs)).chain(merged).collect()
+    }
+}
+
 fn compare(task: &Task, program: &Program, watchdog: &Watchdog, report: &Report) {
     if task.calls[0].is_on_sheet() {
         return compare_on_sheet(task, program, watchdog, report);
@@ -104,32 +146,30 @@ fn compare(task: &Task, program: &Program, watchdog: &Watchdog, report: &Report)
     let text = task.text();
     let start = Start::of(&text);
     let (mut printed, mut split, mut class) = (Printed::default(), None, 0);
-    let (mut sheet, mut runs) = (Vec::new(), Vec::new());
+    let mut accepted = Accepted::default();
     for (k, call) in task.calls.iter().enumerate() {
-        let Asked { expected, told, stdout } = ask(task, &text, call, program, watchdog, report);
+        let asked = ask(task, &text, call, program, watchdog, report);
         if k == 0 {
-            class = answer::class(&expected);
-            printed.sheet = stdout.clone();
-            split = (class == 0).then(|| Split::new(&text, &expected));
-            sheet = expected.clone();
+            class = answer::class(&asked.expected);
+            printed.sheet = asked.stdout.clone();
+            split = (class == 0).then(|| Split::new(&text, &asked.expected));
+            accepted.sheet = asked.expected.clone();
         }
-        if let Some(split) = &split {
-            report.telling(&split.of(&call.numbers(&text), &told));
+        if let Some(split) = &mut split {
+            report.telling(&split.of(call.service(), &call.numbers(&text), &asked.told));
         }
         if let Some(start) = &start {
-            report.telling(&start.telling(&expected));
+            report.telling(&start.telling(&asked.expected));
         }
-        printed.kept = printed.kept.or_else(|| answer::kept(&stdout));
-        if call.service() == "run" {
-            runs.push((call.clone(), expected));
-        }
+        printed.take(call, &asked.stdout);
+        accepted.take(call, asked);
     }
     if class == 0 {
-        compare_on_sheet(&boards::of_text(&text, &sheet, &runs), program, watchdog, report);
+        accepted.on_boards(&text).iter().for_each(|task| compare_on_sheet(task, program, watchdog, report));
     }
     if [0, 11, 12].contains(&class) && report.is_first(&text) {
         let walked = match class {
-            0 => walking::accepted(&text, &printed.sheet, printed.kept.as_deref()),
+            0 => printed.walked(&text),
             _ => walking::refused(&text),
         };
         report.walk(&text, class, walked);

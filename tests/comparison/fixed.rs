@@ -3,7 +3,7 @@ use crate::call::{call, lending, run, Call, Task};
 use crate::dice::Dice;
 use crate::draft::{alike, q_with_third, y_from, y_with_first_again, ONE_STATE, Q, TINY, Y};
 use crate::subject::Subject;
-use crate::{crowds, forms, limits, products, redundant, wide, written};
+use crate::{crowds, forms, limits, merged, products, redundant, wide, written};
 use reference::TEXT_BOUND;
 use std::collections::HashMap;
 
@@ -14,9 +14,10 @@ const MOST: usize = 4096;
 
 /// Every room, every event as a figure and as a name, every list of one event.
 fn each(subject: &Subject) -> Vec<Call> {
-    let mut calls = vec![call(""), call("steps"), call("thin")];
+    let mut calls = vec![call(""), call("steps"), call("thin"), call("merge")];
     calls.extend(subject.sheet_rooms().into_iter().map(|room| lending("check", Some(room))));
     calls.extend(subject.step_rooms().into_iter().map(|room| lending("steps", Some(room))));
+    calls.extend(subject.merge_rooms().into_iter().map(|room| lending("merge", Some(room))));
     let figures = (0..subject.names.len()).map(|event| event.to_string());
     let words: Vec<String> = figures.chain(subject.names.clone()).chain(subject.undeclared_figures()).collect();
     calls.extend(words.iter().map(|word| call(&format!("name {word}"))));
@@ -87,7 +88,7 @@ fn pieces() -> Vec<Task> {
     let each: Vec<usize> = (1..ONE_STATE.len()).collect();
     let mut tasks: Vec<Task> = [0, 1, 11, 80, Y.len() - 1, Y.len()].map(|end| in_pieces(Y, &[end], "")).into();
     tasks.extend([&[1, 2][..], &[50, 100, 150], &[0, 0, Y.len()]].map(|ends| in_pieces(Y, ends, "run brake 0 2 2")));
-    tasks.extend(["steps", "name 2", "thin"].map(|line| in_pieces(Y, &[60], line)));
+    tasks.extend(["steps", "name 2", "thin", "merge"].map(|line| in_pieces(Y, &[60], line)));
     tasks.extend([9, 15, 17].map(|end| in_pieces(&y_from(3), &[end], "run home")));
     tasks.push(in_pieces(ONE_STATE, &each, "check"));
     tasks.extend([1, 4096, 16_384, TEXT_BOUND - 1, TEXT_BOUND].map(|end| in_pieces(&largest, &[end], "check")));
@@ -128,7 +129,8 @@ fn example_files() -> Vec<Vec<u8>> {
 fn by_turns(dice: &mut Dice, kind: &'static str, texts: Vec<Vec<u8>>) -> Vec<Task> {
     let task = |(turn, text): (usize, Vec<u8>)| {
         let subject = Subject::new(text);
-        let other = subject.one_of_each(dice).remove(1 + turn % 5);
+        let mut calls = subject.one_of_each(dice);
+        let other = calls.remove(1 + turn % (calls.len() - 1));
         Task::new(kind, subject.text, vec![other])
     };
     texts.into_iter().enumerate().map(task).collect()
@@ -155,16 +157,20 @@ fn many(dice: &mut Dice) -> Vec<Task> {
 
 // ---- All ----------------------------------------------------------------------------
 
-/// Those on the same text as one, each call once, check first; and thin on every text that is accepted.
+/// Those on the same text as one, each call once, check first; and thin and merge on every text that is accepted.
 fn joined(tasks: Vec<Task>) -> Vec<Task> {
     let mut all: Vec<Task> = Vec::new();
     let mut places = HashMap::new();
     for task in tasks {
         let place = *places.entry(task.pieces.clone()).or_insert(all.len());
         if place == all.len() {
-            let accepted = Subject::new(task.text()).sheet.is_ok();
-            let calls = if accepted { vec![call("check"), call("thin")] } else { vec![call("check")] };
-            all.push(Task { calls, ..task });
+            let subject = Subject::new(task.text());
+            let lines = match subject.sheet.is_ok() {
+                true if subject.merges_soon() => &["check", "thin", "merge"][..],
+                true => &["check", "thin"],
+                false => &["check"],
+            };
+            all.push(Task { calls: lines.iter().map(|line| call(line)).collect(), ..task });
         }
         for call in task.calls {
             match all[place].calls.iter_mut().find(|c| c.is_same(&call)) {
@@ -178,12 +184,12 @@ fn joined(tasks: Vec<Task>) -> Vec<Task> {
 
 pub fn all() -> Vec<Task> {
     let mut dice = Dice::new(1);
-    let mut tasks = [written::examples(), written::calls(), written::faults()].concat();
+    let mut tasks = [written::examples(), written::calls(), written::faults(), merged::known()].concat();
     let limits = limits::all(&mut dice);
     let numbered = (0..64).map(|k| format!("e{k}")).collect();
     let named = [alike(), numbered].map(|names: Vec<String>| forms::with_names(names.clone(), &names));
     let texts = [Y.to_string(), y_from(3), Q.to_string(), q_with_third(), ONE_STATE.to_string()];
-    for text in texts.into_iter().chain(named) {
+    for text in texts.into_iter().chain(merged::texts()).chain(named) {
         let subject = Subject::new(text);
         tasks.push(Task::new("example", subject.text.clone(), each(&subject)));
     }

@@ -58,7 +58,7 @@ fn a_watched_product(dice: &mut Dice) -> Made {
 }
 
 fn with_redundant_machines(dice: &mut Dice) -> Made {
-    let draw = dice.one(&[redundant::divided, redundant::nearly_needed, redundant::repeated]);
+    let draw = dice.one(&[redundant::divided, redundant::nearly_needed, redundant::repeated, redundant::finer]);
     draw(dice).into()
 }
 
@@ -81,21 +81,29 @@ fn any(dice: &mut Dice) -> (&'static str, Made) {
     unreachable!("a maker for each number below the sum");
 }
 
-/// Check first, as it is, then thin: both are there even if the rest is cut off. On accepted texts several lists; where
-/// all services refuse alike, not all of them.
+/// Check first, as it is, then thin, and on accepted texts merge: these are there even if the rest is cut off. On accepted
+/// texts several lists; where all services refuse alike, not all of them.
 fn calls(dice: &mut Dice, subject: &Subject) -> Vec<Call> {
     let mut calls = subject.one_of_each(dice);
     match &subject.sheet {
-        Ok(_) => calls.extend([(); 3].map(|_| run(&subject.list(dice)))),
+        Ok(_) => {
+            calls.extend([(); 3].map(|_| run(&subject.list(dice))));
+            calls.push(call("merge"));
+        }
         Err(refusal) if refusal.0 > 7 => {
             calls.extend([lending("steps", None), call(&format!("name {}", subject.event(dice)))]);
         }
         Err(_) => {
+            calls.remove(1 + dice.below(6));
             calls.remove(1 + dice.below(5));
-            calls.remove(1 + dice.below(4));
         }
     }
-    calls[1..].sort_by_key(|call| call.service() != "thin");
+    let turn = |call: &Call| match call.service() {
+        "thin" => 0,
+        "merge" if call.arguments().is_empty() => 1,
+        _ => 2,
+    };
+    calls[1..].sort_by_key(turn);
     if dice.once_in(2) {
         calls[0] = call("");
     }

@@ -4,7 +4,7 @@ use crate::answer::Told;
 use crate::board::{self, board_run, board_sheet};
 use crate::call::{names, Call};
 use crate::lent::{lend, Among, Entry, UNSPOILT};
-use crate::split::{split_board, split_check, split_name, split_run, split_sheet, split_steps, split_thin};
+use crate::split::{split_board, split_check, split_merge, split_name, split_run, split_sheet, split_steps, split_thin};
 use crate::split::{Answer, Name, Run, Set, Step};
 use reference::TEXT_BOUND;
 use std::fmt::Debug;
@@ -94,15 +94,16 @@ fn filling<T: Entry>(function: Lending<T>, name: &str, among: &Among, rooms: &[u
 fn a_sheet(told: &Told) -> Full<u8> {
     match told {
         Told::Refused(refusal) => Err(*refusal),
-        Told::Sheet(sheet) => Ok(sheet.clone()),
+        Told::Sheet(sheet) | Told::Merged(sheet) => Ok(sheet.clone()),
         _ => unreachable!("a sheet"),
     }
 }
 
-fn checked(call: &Call, text: &[u8], told: &Told) -> Vec<Fault> {
+/// Check or merge.
+fn written(function: Lending<u8>, name: &str, call: &Call, text: &[u8], told: &Told) -> Vec<Fault> {
     let full = a_sheet(told);
     let rooms = rooms(call, text, TEXT_BOUND, full.as_ref().map_or(9, Vec::len));
-    filling(split_check, "split_check", &Among::others(text), &rooms, &full)
+    filling(function, name, &Among::others(text), &rooms, &full)
 }
 
 fn rewritten(call: &Call, sheet: &[u8], told: &Told) -> Vec<Fault> {
@@ -197,7 +198,8 @@ fn thinned(text: &[u8], told: &Told) -> Vec<Fault> {
 /// What the library gives otherwise than it should.
 pub fn faults(call: &Call, text: &[u8], told: &Told) -> Vec<Fault> {
     match call.service() {
-        "check" => checked(call, text, told),
+        "check" => written(split_check, "split_check", call, text, told),
+        "merge" => written(split_merge, "split_merge", call, text, told),
         "steps" => listed(call, text, told),
         "name" => named(call, text, told),
         "run" => ran(call, text, told),

@@ -1,4 +1,4 @@
-//! Splits in which some machines are needed and others add nothing, for thinning.
+//! Splits in which some machines are needed and others add nothing, for thinning; or places, for merging.
 use crate::dice::Dice;
 use crate::draft::Draft;
 use crate::products::{product, rings};
@@ -17,9 +17,9 @@ fn without_machines(dice: &mut Dice, states: usize) -> Draft {
     Draft { states, start: None, events, steps, machines: Vec::new() }.begun(dice)
 }
 
-/// Up to four places.
-fn division(dice: &mut Dice, states: usize) -> Vec<Vec<usize>> {
-    let mut places = vec![Vec::new(); 2 + dice.below(3)];
+/// Up to so many places.
+fn divided_in(dice: &mut Dice, states: usize, most: usize) -> Vec<Vec<usize>> {
+    let mut places = vec![Vec::new(); most];
     for state in 0..states {
         let at = dice.below(places.len());
         dice.insert(&mut places[at], state);
@@ -28,13 +28,34 @@ fn division(dice: &mut Dice, states: usize) -> Vec<Vec<usize>> {
     places
 }
 
+/// Up to four places.
+fn division(dice: &mut Dice, states: usize) -> Vec<Vec<usize>> {
+    let most = 2 + dice.below(3);
+    divided_in(dice, states, most)
+}
+
+fn is_accepted(draft: &Draft) -> bool {
+    reference::check(RULES, draft.text().as_bytes(), TEXT_BOUND).is_ok()
+}
+
 /// Machines at random until they suffice, and a few more.
 pub fn divided(dice: &mut Dice) -> Draft {
     let states = 2 + dice.below(7);
     let mut draft = without_machines(dice, states);
-    let accepted = |draft: &Draft| reference::check(RULES, draft.text().as_bytes(), TEXT_BOUND).is_ok();
-    while draft.machines.len() < 16 && !(accepted(&draft) && dice.once_in(3)) {
+    while draft.machines.len() < 16 && !(is_accepted(&draft) && dice.once_in(3)) {
         let machine = division(dice, states);
+        dice.insert(&mut draft.machines, machine);
+    }
+    draft
+}
+
+/// Machines with more places than are needed, until they suffice: so many merges that which comes first counts.
+pub fn finer(dice: &mut Dice) -> Draft {
+    let states = 3 + dice.below(10);
+    let mut draft = without_machines(dice, states);
+    while draft.machines.len() < 16 && !is_accepted(&draft) {
+        let most = 2 + dice.below(states);
+        let machine = divided_in(dice, states, most);
         dice.insert(&mut draft.machines, machine);
     }
     draft

@@ -2,6 +2,7 @@
 use crate::boards::telling::LABELS as BOARD_LABELS;
 use crate::call::{Call, Task, SERVICES};
 use crate::library::Fault;
+use crate::merging::LABELS as MERGE_LABELS;
 use crate::program::beside;
 use crate::starts::LABELS as START_LABELS;
 use crate::telling::LABELS;
@@ -17,23 +18,24 @@ use std::sync::Mutex;
 const SHOWN: usize = 20;
 
 /// Which refusals each service has, in the order of `SERVICES`.
-const DUE: [&[usize]; 7] = [
+const DUE: [&[usize]; SERVICES.len()] = [
     &[0, 1, 2, 3, 4, 5, 6, 7, 8, 9, 10, 11, 12, 13],
     &[0, 1, 2, 3, 4, 5, 6, 7, 13],
     &[0, 1, 2, 3, 4, 5, 6, 7, 14],
     &[0, 1, 2, 3, 4, 5, 6, 7, 8, 9, 10, 11, 12, 14],
     &[0, 1, 2, 3, 4, 5, 6, 7, 8, 9, 10, 11, 12],
+    &[0, 1, 2, 3, 4, 5, 6, 7, 8, 9, 10, 11, 12, 13],
     &[0, 13, 15],
     &[0, 14, 15],
 ];
 
 fn labels() -> impl Iterator<Item = &'static str> {
-    START_LABELS.into_iter().chain(LABELS).chain(BOARD_LABELS)
+    START_LABELS.into_iter().chain(LABELS).chain(MERGE_LABELS).chain(BOARD_LABELS)
 }
 
 #[derive(Default)]
 struct Counts {
-    calls: [[usize; 16]; 7],
+    calls: [[usize; 16]; SERVICES.len()],
     /// Of these, how many were asked of the library only.
     unsaid: usize,
     words: usize,

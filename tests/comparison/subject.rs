@@ -1,4 +1,5 @@
 //! A text, and the arguments that fit it closely or do not: sizes that are lent, events, and lists of events.
+use crate::answer;
 use crate::call::{call, lending, names, run, Call};
 use crate::dice::Dice;
 use crate::draft::alike;
@@ -38,6 +39,22 @@ impl Subject {
 
     pub fn sheet_rooms(&self) -> Vec<String> {
         Subject::rooms(self.sheet.as_ref().map_or(7, Vec::len))
+    }
+
+    /// Those of the merged sheet, and one in which the sheet as it is would not fit.
+    pub fn merge_rooms(&self) -> Vec<String> {
+        let Ok(sheet) = &self.sheet else { return Subject::rooms(7) };
+        let merged = answer::merged(&self.text).map_or(0, |merged| merged.len());
+        let between = (merged < sheet.len()).then(|| (sheet.len() - 1).to_string());
+        Subject::rooms(merged).into_iter().chain(between).collect()
+    }
+
+    /// The independent program tries each pair of places anew, which takes it long if there are many of many states.
+    pub fn merges_soon(&self) -> bool {
+        let machines = reference::read(RULES, &self.text).map_or(Vec::new(), |input| input.parts);
+        let states = |parts: &[Vec<usize>]| parts.iter().map(Vec::len).sum::<usize>();
+        let cost = |parts: &[Vec<usize>]| parts.len() * parts.len() * states(parts) * self.names.len();
+        self.sheet.is_err() || machines.iter().all(|machine| cost(&machine.places) < 40_000_000)
     }
 
     pub fn step_rooms(&self) -> Vec<String> {
@@ -166,14 +183,16 @@ impl Subject {
     /// Check as it is and with a size; then one call of each of the others.
     pub fn one_of_each(&self, dice: &mut Dice) -> Vec<Call> {
         let [sheet, steps] = [self.sheet_rooms(), self.step_rooms()].map(|rooms| dice.one(&rooms));
+        let merged = self.merges_soon().then(|| lending("merge", Some(dice.one(&self.merge_rooms()))));
         let (event, list) = (self.event(dice), self.list(dice));
-        vec![
+        let calls = [
             call("check"),
             lending("check", Some(sheet)),
             lending("steps", Some(steps).filter(|_| !dice.once_in(4))),
             call(&format!("name {event}")),
             run(&list),
             call("thin"),
-        ]
+        ];
+        calls.into_iter().chain(merged).collect()
     }
 }

@@ -1,18 +1,23 @@
 //! How often an answer is one that a likely fault would change, on texts that are accepted.
 use crate::answer::Told;
 use crate::machines::{after, Machine, Plan};
+use crate::merging::{self, Merging};
 
 /// The plan and the machines that the independent program's sheet gives.
 pub struct Split {
     plan: Plan,
     machines: Vec<Machine>,
+    /// The bytes of the sheet.
+    size: usize,
+    /// What is telling of the merged split, once it is asked for.
+    merging: Option<Vec<&'static str>>,
 }
 
 impl Split {
     pub fn new(text: &[u8], sheet: &[u8]) -> Split {
         let plan = Plan::of(text);
         let machines = plan.machines_on(sheet).expect("a sheet");
-        Split { plan, machines }
+        Split { plan, machines, size: sheet.len(), merging: None }
     }
 
     fn starts(&self) -> Vec<usize> {
@@ -120,8 +125,14 @@ impl Split {
         told.iter().filter(|(_, is)| *is).map(|(label, _)| *label).collect()
     }
 
-    pub fn of(&self, numbers: &[usize], told: &Told) -> Vec<&'static str> {
+    fn of_merge(&mut self, lent: Option<&usize>, told: &Told) -> Vec<&'static str> {
+        let labels = || Merging::of(&self.plan).map_or(Vec::new(), |split| split.labels());
+        merging::telling(self.merging.get_or_insert_with(labels), told, lent, self.size)
+    }
+
+    pub fn of(&mut self, service: &str, numbers: &[usize], told: &Told) -> Vec<&'static str> {
         match told {
+            _ if service == "merge" => self.of_merge(numbers.first(), told),
             Told::Sheet(_) if self.starts() != self.places_of_zero() => vec![NOT_OF_ZERO],
             Told::Ran(blocked, _) => self.of_run(numbers, *blocked),
             Told::Kept(kept) => self.of_thin(kept),
