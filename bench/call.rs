@@ -2,7 +2,7 @@
 use std::hint::black_box;
 
 /// The services, by the words of the command line.
-pub const SERVICES: [&str; 7] = ["check", "steps", "name", "run", "thin", "sheet", "board"];
+pub const SERVICES: [&str; 8] = ["check", "steps", "name", "run", "thin", "merge", "sheet", "board"];
 
 /// What is lent for a sheet and for steps. Both always suffice.
 pub const SHEET: usize = 32_768;
@@ -16,6 +16,7 @@ pub enum Service {
     Name(usize),
     Run(Vec<u8>),
     Thin,
+    Merge,
     /// So many of the bytes that are lent for a sheet.
     Sheet(usize),
     /// Names, each ended by byte 10.
@@ -30,8 +31,9 @@ impl Service {
             Service::Name(_) => 2,
             Service::Run(_) => 3,
             Service::Thin => 4,
-            Service::Sheet(_) => 5,
-            Service::Board(_) => 6,
+            Service::Merge => 5,
+            Service::Sheet(_) => 6,
+            Service::Board(_) => 7,
         }]
     }
 }

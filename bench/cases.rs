@@ -113,20 +113,29 @@ pub fn last_event(text: &[u8]) -> usize {
     line.iter().filter(|b| **b == b' ').count() - 1
 }
 
-/// All services on a text. The last name is the one that takes longest to find.
+/// The texts that are there for merging. On them it alone is timed: the peer for the other services reads no start.
+pub fn is_for_merging(name: &str) -> bool {
+    name.starts_with("merge-")
+}
+
+/// Of the other texts merging is timed on the shortest and on the longest.
+fn services(Text { name, bytes, walk }: &Text) -> Vec<Service> {
+    let last = Service::Name(last_event(bytes));
+    let all = [Service::Check(SHEET), Service::Steps, last, Service::Run(walk.clone()), Service::Thin];
+    match &name[..] {
+        name if is_for_merging(name) => vec![Service::Merge],
+        "a-y" | "both-32k" => all.into_iter().chain([Service::Merge]).collect(),
+        _ => all.into(),
+    }
+}
+
+/// The last name is the one that takes longest to find.
 pub fn accepted(programs: &mut Programs, text: &Text) -> Vec<Case> {
-    let Text { name, bytes, walk } = text;
-    let services = [
-        Service::Check(SHEET),
-        Service::Steps,
-        Service::Name(last_event(bytes)),
-        Service::Run(walk.clone()),
-        Service::Thin,
-    ];
+    let Text { name, bytes, .. } = text;
     let case = |service| {
         let case = Case::new(programs, name, bytes, service);
         assert!(case.refusal().is_none(), "{name} is refused");
         case
     };
-    services.map(case).into()
+    services(text).into_iter().map(case).collect()
 }

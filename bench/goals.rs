@@ -1,6 +1,6 @@
 //! What the measured times have to keep to.
 use crate::call::{PEER, PROVED, SERVICES};
-use crate::cases::Case;
+use crate::cases::{is_for_merging, Case};
 use crate::table::Table;
 use crate::timing::{median, ratio};
 
@@ -62,6 +62,8 @@ pub fn goals(cases: &[Case]) -> Table {
     let large = of(cases, "check").filter(|case| case.name.ends_with("-32k"));
     let mut goals: Vec<Goal> = large.map(|case| to_peer(cases, &case.name, 1.5)).collect();
     goals.push(to_peer(cases, "cycle-31k", 1.5));
+    let merged = of(cases, "merge").filter(|case| is_for_merging(&case.name));
+    goals.extend(merged.map(|case| to_peer(cases, &case.name, 1.5)));
     goals.push(to_peer(cases, "a-y", 2.0));
     goals.push(thin_to_check(cases));
     goals.extend(["machines-", "steps-"].map(|series| flat(cases, series)));

@@ -67,7 +67,7 @@ fn main() {
     let about = |line: &str| println!("{line}\n");
     about(&format!(
         "Accepted texts and good sheets. ns and ratio (proved to peer, within a pass) are medians over {passes} passes, independent ns over \
-         every tenth of them; times: how many times as long the independent program takes."
+         every tenth of them, or one figure if it is over 50 ms; times: how many times as long the independent program takes."
     ));
     accepted(&yes).print(markdown);
     about(

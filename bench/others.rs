@@ -5,7 +5,7 @@ use reference::Refusal;
 use std::hint::black_box;
 
 /// How many requests of document 02 are in force.
-const RULES: reference::Rules = reference::Rules(3);
+const RULES: reference::Rules = reference::Rules(4);
 
 /// It has no steps and no name.
 pub struct Peer {
@@ -15,6 +15,13 @@ pub struct Peer {
 impl Peer {
     pub fn new() -> Peer {
         Peer { sheet: vec![0; SHEET] }
+    }
+
+    fn written(&self, answer: peer_slips::Answer) -> Told {
+        match answer {
+            peer_slips::Answer::Accepted(size) => Told::Sheet(self.sheet[..size].to_vec()),
+            peer_slips::Answer::Refused(number, detail, second) => refused(number, detail, second),
+        }
     }
 }
 
@@ -41,10 +48,14 @@ impl Program for Peer {
                 peer::Thinned::Kept(machines, size) => Told::Kept(machines.into(), size),
                 peer::Thinned::Refused(number, detail, second) => refused(number, detail, second),
             }),
-            Service::Sheet(lent) => Some(match peer_slips::sheet(text, &mut self.sheet[..*lent]) {
-                peer_slips::Answer::Accepted(size) => Told::Sheet(self.sheet[..size].to_vec()),
-                peer_slips::Answer::Refused(number, detail, second) => refused(number, detail, second),
-            }),
+            Service::Merge => {
+                let answer = peer_slips::merge(text, &mut self.sheet);
+                Some(self.written(answer))
+            }
+            Service::Sheet(lent) => {
+                let answer = peer_slips::sheet(text, &mut self.sheet[..*lent]);
+                Some(self.written(answer))
+            }
             Service::Board(names) => {
                 let peer_slips::RunAnswer { ran, places, .. } = peer_slips::board(text, names);
                 Some(match ran {
@@ -64,6 +75,7 @@ impl Program for Peer {
             }
             Service::Run(events) => again(rounds, || peer::run(black_box(text), black_box(events))),
             Service::Thin => again(rounds, || peer::thin(black_box(text))),
+            Service::Merge => again(rounds, || peer_slips::merge(black_box(text), black_box(&mut self.sheet))),
             Service::Sheet(lent) => {
                 again(rounds, || peer_slips::sheet(black_box(text), black_box(&mut self.sheet[..*lent])));
             }
@@ -112,6 +124,7 @@ impl Program for Independent {
             Service::Run(events) => ran(text, events),
             Service::Thin => reference::thin(RULES, text)
                 .map(|kept| Told::Kept(kept.iter().map(|machine| 1 << machine).sum(), kept.len())),
+            Service::Merge => reference::merge(RULES, text, SHEET).map(Told::Sheet),
             Service::Sheet(lent) => reference::rewritten(RULES, text, *lent).map(Told::Sheet),
             Service::Board(names) => boarded(text, names),
         };
@@ -128,6 +141,7 @@ impl Program for Independent {
                 again(rounds, || reference::run(RULES, black_box(text), black_box(&list)));
             }
             Service::Thin => again(rounds, || reference::thin(RULES, black_box(text))),
+            Service::Merge => again(rounds, || reference::merge(RULES, black_box(text), SHEET)),
             Service::Sheet(lent) => again(rounds, || reference::rewritten(RULES, black_box(text), *lent)),
             Service::Board(names) => {
                 again(rounds, || reference::board_run(RULES, black_box(text), black_box(names)));

@@ -1,6 +1,6 @@
 //! The proved library, called as include/split.rs has it.
 use crate::call::{again, Call, Program, Service, Told, SHEET, STEPS};
-use crate::split::{board, check, name, run, sheet, steps, thin, Answer, Name, Run, Set, Step};
+use crate::split::{board, check, merge, name, run, sheet, steps, thin, Answer, Name, Run, Set, Step};
 use std::hint::black_box;
 
 /// The answer, unless a refusal has a number.
@@ -48,6 +48,10 @@ impl Program for Proved {
                 let Set { number, detail, second, machines, size } = thin(text);
                 or(Told::Kept(machines, size), [number, detail, second])
             }
+            Service::Merge => {
+                let Answer { number, detail, second, size } = merge(text, &mut self.sheet);
+                or(Told::Sheet(self.sheet[..size].to_vec()), [number, detail, second])
+            }
             Service::Sheet(lent) => {
                 let Answer { number, detail, second, size } = sheet(text, &mut self.sheet[..*lent]);
                 or(Told::Sheet(self.sheet[..size].to_vec()), [number, detail, second])
@@ -64,6 +68,7 @@ impl Program for Proved {
             Service::Name(event) => again(rounds, || name(black_box(text), black_box(*event))),
             Service::Run(events) => again(rounds, || run(black_box(text), black_box(events))),
             Service::Thin => again(rounds, || thin(black_box(text))),
+            Service::Merge => again(rounds, || merge(black_box(text), black_box(bytes))),
             Service::Sheet(lent) => again(rounds, || sheet(black_box(text), black_box(&mut bytes[..*lent]))),
             Service::Board(names) => again(rounds, || board(black_box(text), black_box(names))),
         }

@@ -10,6 +10,9 @@ const SAMPLE: Duration = Duration::from_micros(500);
 /// The independent program takes long and nothing depends on it closely: it has a sample in one pass of so many.
 const SELDOM: usize = 10;
 
+/// Calls that take longer than this, in ns, have a sample in the first pass only.
+const LONG: f64 = 5e7;
+
 /// Some calls beforehand are not timed: they bring text and code back into the caches.
 fn time(program: &mut dyn Program, call: &Call, rounds: usize) -> Duration {
     program.repeat(call, rounds / 8);
@@ -24,6 +27,9 @@ fn rounds(program: &mut dyn Program, call: &Call) -> usize {
         return 0;
     }
     let mut rounds = 1;
+    if time(program, call, rounds) > 10 * SAMPLE {
+        return rounds;
+    }
     while (0..3).any(|_| time(program, call, rounds) < SAMPLE) {
         rounds *= 2;
     }
@@ -38,7 +44,8 @@ pub fn measure(programs: &mut Programs, cases: &mut [Case], passes: usize) {
         let order = if pass % 2 == 0 { [PROVED, PEER, INDEPENDENT] } else { [PEER, PROVED, INDEPENDENT] };
         for (case, rounds) in cases.iter_mut().zip(&sizes) {
             for p in order {
-                if rounds[p] > 0 && (p != INDEPENDENT || pass % SELDOM == 0) {
+                let is_short = case.ns[p].first().is_none_or(|first| *first < LONG);
+                if rounds[p] > 0 && (p != INDEPENDENT || pass % SELDOM == 0 && is_short) {
                     let taken = time(&mut *programs[p], &case.call, rounds[p]);
                     case.ns[p].push(taken.as_nanos() as f64 / rounds[p] as f64);
                 }

@@ -81,8 +81,8 @@ fn any(dice: &mut Dice) -> (&'static str, Made) {
     unreachable!("a maker for each number below the sum");
 }
 
-/// Check first, as it is, then thin, and on accepted texts merge: these are there even if the rest is cut off. On accepted
-/// texts several lists; where all services refuse alike, not all of them.
+/// Check first, as it is, then thin, and on accepted texts merge: these are there even if the rest is cut off. On
+/// accepted texts several lists; where all services refuse alike, not all of them.
 fn calls(dice: &mut Dice, subject: &Subject) -> Vec<Call> {
     let mut calls = subject.one_of_each(dice);
     match &subject.sheet {
