@@ -157,7 +157,8 @@ fn many(dice: &mut Dice) -> Vec<Task> {
 
 // ---- All ----------------------------------------------------------------------------
 
-/// Those on the same text as one, each call once, check first; and thin and merge on every text that is accepted.
+/// Those on the same text as one, each call once, check first; and thin on every text that is accepted, and merge
+/// unless that takes too long.
 fn joined(tasks: Vec<Task>) -> Vec<Task> {
     let mut all: Vec<Task> = Vec::new();
     let mut places = HashMap::new();
@@ -166,7 +167,7 @@ fn joined(tasks: Vec<Task>) -> Vec<Task> {
         if place == all.len() {
             let subject = Subject::new(task.text());
             let lines = match subject.sheet.is_ok() {
-                true if subject.merges_soon() => &["check", "thin", "merge"][..],
+                true if subject.merging_takes() < 40_000_000 => &["check", "thin", "merge"][..],
                 true => &["check", "thin"],
                 false => &["check"],
             };

@@ -49,12 +49,14 @@ impl Subject {
         Subject::rooms(merged).into_iter().chain(between).collect()
     }
 
-    /// The independent program tries each pair of places anew, which takes it long if there are many of many states.
-    pub fn merges_soon(&self) -> bool {
-        let machines = reference::read(RULES, &self.text).map_or(Vec::new(), |input| input.parts);
-        let states = |parts: &[Vec<usize>]| parts.iter().map(Vec::len).sum::<usize>();
-        let cost = |parts: &[Vec<usize>]| parts.len() * parts.len() * states(parts) * self.names.len();
-        self.sheet.is_err() || machines.iter().all(|machine| cost(&machine.places) < 40_000_000)
+    /// How long merging takes the independent program, which tries each pair of places on all states and events anew:
+    /// a second or more from about 10,000,000 on. Nothing on a text that is refused.
+    pub fn merging_takes(&self) -> usize {
+        let input = self.sheet.as_ref().ok().and_then(|_| reference::read(RULES, &self.text).ok());
+        input.map_or(0, |reference::Input { plan, parts }| {
+            let most = parts.iter().map(|machine| machine.places.len()).max().unwrap_or(0);
+            most * most * plan.states * plan.events.len()
+        })
     }
 
     pub fn step_rooms(&self) -> Vec<String> {
@@ -180,10 +182,10 @@ impl Subject {
 
     // ---- Calls ----------------------------------------------------------------------
 
-    /// Check as it is and with a size; then one call of each of the others.
+    /// Check as it is and with a size; then one call of each of the others, of merge unless that takes long.
     pub fn one_of_each(&self, dice: &mut Dice) -> Vec<Call> {
         let [sheet, steps] = [self.sheet_rooms(), self.step_rooms()].map(|rooms| dice.one(&rooms));
-        let merged = self.merges_soon().then(|| lending("merge", Some(dice.one(&self.merge_rooms()))));
+        let merged = (self.merging_takes() < 5_000_000).then(|| lending("merge", Some(dice.one(&self.merge_rooms()))));
         let (event, list) = (self.event(dice), self.list(dice));
         let calls = [
             call("check"),
