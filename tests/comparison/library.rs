@@ -4,7 +4,9 @@ use crate::answer::Told;
 use crate::board::{self, board_run, board_sheet};
 use crate::call::{names, Call};
 use crate::lent::{lend, Among, Entry, UNSPOILT};
-use crate::split::{split_board, split_check, split_merge, split_name, split_run, split_sheet, split_steps, split_thin};
+use crate::split::{
+    split_board, split_check, split_merge, split_name, split_run, split_sheet, split_steps, split_thin,
+};
 use crate::split::{Answer, Name, Run, Set, Step};
 use reference::TEXT_BOUND;
 use std::fmt::Debug;

@@ -1,6 +1,6 @@
 //! Splits written by hand, each with the sheet that merging their places gives.
 use crate::call::{call, lending, Task};
-use crate::draft::{lines, q_with_third, y_from, y_with_first_again, with, ONE_STATE, Y};
+use crate::draft::{lines, q_with_third, with, y_from, y_with_first_again, ONE_STATE, Y};
 
 /// Four states in a ring.
 const RING: &str = "(states 4)|(events a b c d)|(step 0 a 1)|(step 1 b 2)|(step 2 c 3)|(step 3 d 0)|";
