@@ -25,8 +25,7 @@ module _ {c : Counts} {place sizes pre post excited : List ℕ} {r : Verdict} (j
   -- the verdict is that of 11 and 12
   verdict : (s : List ℕ) (v : Input) → HeldPast10 s v c place sizes pre post excited → verdictRefusal r ≡ coverRefusal (system v) (v .machines)
   verdict s v h =
-      judged .judges (system v) (v .machines) post (h .cover) (sym (ap (λ (d : Counts). d .states) (h .counted))) (sym (ap (λ (d : Counts). d .events) (h .counted)))
-      (sym (ap (λ (d : Counts). d .machines) (h .counted)))
+      judged .judges (system v) (v .machines) post (h .cover) (sym (h .states)) (sym (h .events)) (sym (h .machines))
 
   pub merge-refused : {why : D.Refusal} → r ≡ Refused why → SheetRows c place sizes pre post → Merges c place sizes pre post excited (Refused why) place sizes pre post
   unfolding verdictRefusal
@@ -42,6 +41,6 @@ module _ {c : Counts} {place sizes pre post excited : List ℕ} {r : Verdict} (j
         judges = λ s v h. sym (ap verdictRefusal e) ∙ verdict s v h;
         tells = λ s v h n.
             y .tells s v h (sym (verdict s v h) ∙ ap verdictRefusal e)
-            (sets-told (h .cover) (rw (ap (λ (d : Counts). d .states) (h .counted)) at filled (ap verdictRefusal e)) (ap (λ (d : Counts). d .machines) (h .counted)) .places)
+            (sets-told (h .cover) (rw (h .states) at filled (ap verdictRefusal e)) (h .machines) .places)
             (record { size = refl; common = l .common }) f;
       }

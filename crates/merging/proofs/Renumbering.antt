@@ -1,5 +1,5 @@
 -- The moves of a machine by the new numbers, event by event.
-use Prim.Native.Nat.{ℕ, _+_, _*_, _<_, _≤_}
+use Prim.Native.Nat.{ℕ, suc, _+_, _*_, _<_, _≤_}
 use native.Mathlib.Decide.{ℕ-discrete}
 use native.Mathlib.Omega.{arith}
 use mathlib.Core.Path.{_≡_, refl, sym, _∙_}
@@ -30,7 +30,7 @@ pub record Renumbering (number : List ℕ) (m events : ℕ) (pre post pre2 post2
   pub done : (j : ℕ) → j < e → moveAt pre2 post2 m j ≡ renumbered (entry number) (moveAt pre post m j)
   pub rest-pre : (i : ℕ) → Untouched m e i → entry pre2 i ≡ entry pre i
   pub rest-post : (i : ℕ) → Untouched m e i → entry post2 i ≡ entry post i
-  pub ends : Ends pre2 post2
+  pub ends : (j : ℕ) → j < events → entry pre2 (j * 16 + m) < 64 → entry post2 (j * 16 + m) < 64
 
 -- a move is told by two entries
 pub same-move : (pre post pre2 post2 : List ℕ) (m j : ℕ) → entry pre2 (j * 16 + m) ≡ entry pre (j * 16 + m) → entry post2 (j * 16 + m) ≡ entry post (j * 16 + m)
@@ -54,7 +54,7 @@ next : (m e : ℕ) → Untouched m e (e * 16 + m)
 next m e j l q = omega arith
 
 module _ {number : List ℕ} {m events : ℕ} {pre post : List ℕ} where
-  pub renumber-start : MoveRows pre post → Ends pre post → Renumbering number m events pre post pre post 0
+  pub renumber-start : MoveRows pre post → Ends (suc m) events pre post → Renumbering number m events pre post pre post 0
   renumber-start r d =
       record {
         most = omega arith;
@@ -62,7 +62,7 @@ module _ {number : List ℕ} {m events : ℕ} {pre post : List ℕ} where
         done = λ j l. absurd (omega arith);
         rest-pre = λ i u. refl;
         rest-post = λ i u. refl;
-        ends = d;
+        ends = λ j l. d .post-place m j (omega arith) l;
       }
 
   -- the event is not on the machine
@@ -101,11 +101,11 @@ module _ {number : List ℕ} {m events : ℕ} {pre post : List ℕ} where
         done = λ j d. at j (below-suc j e (omega arith));
         rest-pre = λ i u. getD-set-other pre2 (e * 16 + m) i z 0 (u e (omega arith)) ∙ r .rest-pre i (λ j d. u j (omega arith));
         rest-post = λ i u. getD-set-other post2 (e * 16 + m) i q 0 (u e (omega arith)) ∙ r .rest-post i (λ j d. u j (omega arith));
-        ends = record { post-place = λ i. ends i (ℕ-discrete i (e * 16 + m)) };
+        ends = λ j d. ends j d (ℕ-discrete (j * 16 + m) (e * 16 + m));
       })
     where
       y-small : y < 64
-      y-small = let f : entry pre2 (e * 16 + m) < 64 = omega arith in omega (arith, r .ends .post-place (e * 16 + m) f)
+      y-small = let f : entry pre2 (e * 16 + m) < 64 = omega arith in omega (arith, r .ends e l f)
 
       p-small : p < 64
       p-small = omega (arith, small x h, a)
@@ -119,10 +119,10 @@ module _ {number : List ℕ} {m events : ℕ} {pre post : List ℕ} where
       here-post : getD (set post2 (e * 16 + m) q) (e * 16 + m) 0 ≡ q
       here-post = getD-set-same post2 (e * 16 + m) q 0 (omega (arith, r .rows .post-size))
 
-      ends : (i : ℕ) → Dec (i ≡ e * 16 + m) → entry (set pre2 (e * 16 + m) z) i < 64 → entry (set post2 (e * 16 + m) q) i < 64
-      ends i (yes d) k = rw (d, here-post) q-small
-      ends i (no d) k =
-          rw (getD-set-other post2 (e * 16 + m) i q 0 d) (r .ends .post-place i (rw (getD-set-other pre2 (e * 16 + m) i z 0 d) at k))
+      ends : (j : ℕ) → j < events → Dec (j * 16 + m ≡ e * 16 + m) → entry (set pre2 (e * 16 + m) z) (j * 16 + m) < 64 → entry (set post2 (e * 16 + m) q) (j * 16 + m) < 64
+      ends j o (yes d) k = rw (d, here-post) q-small
+      ends j o (no d) k =
+          rw (getD-set-other post2 (e * 16 + m) (j * 16 + m) q 0 d) (r .ends j o (rw (getD-set-other pre2 (e * 16 + m) (j * 16 + m) z 0 d) at k))
 
       here : moveAt (set pre2 (e * 16 + m) z) (set post2 (e * 16 + m) q) m e ≡ renumbered (entry number) (moveAt pre post m e)
       here =

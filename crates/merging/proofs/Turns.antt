@@ -32,7 +32,7 @@ use Rattle.merging.proofs.Passing.{Standing, Given, standing-next}
 
 pub rows-next : {c : Counts} {x : Seen} {m : ℕ} {place sizes place2 sizes2 pre2 post2 earlier2 : List ℕ} → m < c .machines → c .machines ≤ 16 → MergeRows c place sizes (x .pre) (x .post)
     → MachineMerged c x m place sizes place2 sizes2 pre2 post2 earlier2 → MergeRows c place2 sizes2 pre2 post2
-rows-next {c} {x} {m} {place} {sizes} {place2} {sizes2} l few r y =
+rows-next {c} {x} {m} {place} {sizes} {place2} {sizes2} {pre2} {post2} l few r y =
     record {
       initial = r .initial;
       place-size = ap length (y .start) ∙ length-set place (m * 256 + c .initial) _ ∙ r .place-size;
@@ -40,9 +40,15 @@ rows-next {c} {x} {m} {place} {sizes} {place2} {sizes2} l few r y =
       moves = y .moves .rows;
       counts = λ k h. subst (λ (z : List ℕ). entry z k ≤ 64) (sym (y .count)) (count k h (dec (eqb k m)));
       starts = λ k h. subst (λ (z : List ℕ). entry z (k * 256 + c .initial) < 64) (sym (y .start)) (start k h (dec (eqb k m)));
-      ends = y .moves .ends;
+      ends = record { post-place = λ k e h g. end k e h g (dec (eqb k m)) };
     }
   where
+    end : (k e : ℕ) → k < c .machines → e < c .events → T (eqb k m) ⊎ T (not (eqb k m)) → entry pre2 (e * 16 + k) < 64 → entry post2 (e * 16 + k) < 64
+    end k e h g (inl t) = rw (eqb→eq k m t) (y .moves .ends e g)
+    end k e h g (inr t) =
+        let apart : (j : ℕ) → ¬ (e * 16 + k ≡ j * 16 + m) = λ j q. contra (eqb k m) t (eqb-of k m (omega (arith, q, h, l, few))) in
+        rw (y .moves .others-pre (e * 16 + k) apart, y .moves .others-post (e * 16 + k) apart) (r .ends .post-place k e h g)
+
     count : (k : ℕ) → k < c .machines → T (eqb k m) ⊎ T (not (eqb k m)) → entry (set sizes m (y .groups)) k ≤ 64
     count k h (inl t) =
         let e = eqb→eq k m t in
@@ -77,18 +83,6 @@ pub record Turned (c : Counts) (x : Seen) (place0 sizes0 place sizes pre post ea
 
 module _ {c : Counts} {x : Seen} {place0 sizes0 : List ℕ} where
   module _ (s : List ℕ) (v : Input) (t : Told12 c x place0 sizes0 s v) where
-    states : c .states ≡ v .states
-    states = ap (λ (d : Counts). d .states) (t .held .counted)
-
-    initial : c .initial ≡ v .initial
-    initial = ap (λ (d : Counts). d .initial) (t .held .counted)
-
-    events : c .events ≡ length (v .names)
-    events = ap (λ (d : Counts). d .events) (t .held .counted)
-
-    machines : c .machines ≡ length (v .machines)
-    machines = ap (λ (d : Counts). d .machines) (t .held .counted)
-
     left : Left10 v
     left = left10 s v (demand2 s .as-far-as-10 .passes v .0 (t .held .passes))
 
@@ -103,8 +97,8 @@ module _ {c : Counts} {x : Seen} {place0 sizes0 : List ℕ} where
           moves = t .held .cover .moves .move;
           sets-tell = t .sets .each;
           later-tells =
-              subst (λ (n : ℕ). Later (x .sets) (x .pre) n (length (v .names)) (length (x .later)) (x .later)) machines
-              (subst (λ (n : ℕ). Later (x .sets) (x .pre) (c .machines) n (length (x .later)) (x .later)) events (t .later));
+              subst (λ (n : ℕ). Later (x .sets) (x .pre) n (length (v .names)) (length (x .later)) (x .later)) (t .held .machines)
+              (subst (λ (n : ℕ). Later (x .sets) (x .pre) (c .machines) n (length (x .later)) (x .later)) (t .held .events) (t .later));
           excitations = λ e i l. t .held .cover .excitations .members e i (omega (arith, l, t .held .cover .events));
         }
 
@@ -126,7 +120,7 @@ module _ {c : Counts} {x : Seen} {place0 sizes0 : List ℕ} where
         }
       where
         all : (e i : ℕ) → e < length (v .names) → memberAt (x .earlier) e i ≡ ltb i (v .states)
-        all e i l = t .filled .all e i (omega (arith, l, events)) ∙ ap (ltb i) states
+        all e i l = t .filled .all e i (omega (arith, l, t .held .events)) ∙ ap (ltb i) (t .held .states)
 
     -- one machine further
     pub stands-next : {place sizes pre post earlier place2 sizes2 pre2 post2 earlier2 : List ℕ} {m : ℕ} {ms : Decomposition} (b : Within (system v)) → m < c .machines → MergeRows c place sizes pre post
@@ -136,7 +130,7 @@ module _ {c : Counts} {x : Seen} {place0 sizes0 : List ℕ} where
     stands-next {place} {sizes} {pre} {post} {earlier} {place2} {sizes2} {pre2} {post2} {earlier2} {m} {ms} b l r st y = go (below-at ms m below)
       where
         below : m < length ms
-        below = omega (arith, st .state .size, machines, l)
+        below = omega (arith, st .state .size, t .held .machines, l)
 
         go : (k : Machine) × At ms m k → Standing v b (mergeTimes (placeCount m ms) (system v) m ms) (suc m) place2 sizes2 pre2 post2 earlier2
         go w =
@@ -144,7 +138,7 @@ module _ {c : Counts} {x : Seen} {place0 sizes0 : List ℕ} where
             (subst (λ (n : ℕ). Standing v b (mergeTimes (placeCount n (front ++ (w .0 ∷ back))) (system v) n (front ++ (w .0 ∷ back))) (suc n) place2 sizes2 pre2 post2 earlier2) size
             (standing-next v b front back (w .0) (seen (x .sets) pre post earlier (x .later) (x .excited)) place sizes (x .pre) given
             (subst (λ (n : ℕ). Standing v b (front ++ (w .0 ∷ back)) n place sizes pre post earlier) (sym size) (subst (λ (d : Decomposition). Standing v b d m place sizes pre post earlier) whole st))
-            (omega (arith, st .told .counts m (w .0) (w .1), r .counts m l)) c place2 sizes2 pre2 post2 earlier2 events initial r
+            (omega (arith, st .told .counts m (w .0) (w .1), r .counts m l)) c place2 sizes2 pre2 post2 earlier2 (t .held .events) (t .held .initial) r
             (subst (λ (n : ℕ). MachineMerged c (seen (x .sets) pre post earlier (x .later) (x .excited)) n place sizes place2 sizes2 pre2 post2 earlier2) (sym size) y)))
           where
             front : Decomposition
@@ -184,6 +178,6 @@ module _ {c : Counts} {x : Seen} {place0 sizes0 : List ℕ} where
         rows = record { place-size = w .rows .place-size; sizes-size = w .rows .sizes-size; moves = w .rows .moves; counts = w .rows .counts };
         tells = λ s v h n i u f.
             let t : Told12 c x place0 sizes0 s v = record { held = h; covered = n; sets = i; later = u; filled = f } in
-            subst (λ (k : ℕ). SheetTold v (mergedBelow k (system v) (v .machines)) place sizes pre post) (let e : m ≡ length (v .machines) = omega (arith, machines s v t, w .most, l) in e)
+            subst (λ (k : ℕ). SheetTold v (mergedBelow k (system v) (v .machines)) place sizes pre post) (let e : m ≡ length (v .machines) = omega (arith, h .machines, w .most, l) in e)
             (w .stands s v t (left s v t .left .within) .told);
       }

@@ -77,9 +77,9 @@ pub record SeenSizes (machines events : ℕ) (x : Seen) : Type 0 where
   pub later-size : events * 64 ≤ length (x .later)
   pub excited-size : length (x .excited) ≡ 256
 
--- a move that has a pre-place has a post-place
-pub record Ends (pre post : List ℕ) : Type 0 where
-  pub post-place : (i : ℕ) → entry pre i < 64 → entry post i < 64
+-- a move of the first machines and events that has a pre-place has a post-place
+pub record Ends (machines events : ℕ) (pre post : List ℕ) : Type 0 where
+  pub post-place : (k e : ℕ) → k < machines → e < events → entry pre (e * 16 + k) < 64 → entry post (e * 16 + k) < 64
 
 abbrev pub openFor : Seen → ℕ → ℕ → ℕ → Bool
 openFor x m e = openIn (x .earlier) (x .later) (x .excited) m e

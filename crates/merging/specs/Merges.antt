@@ -12,7 +12,7 @@ use Rattle.model.specs.Text.{Input, system}
 use Rattle.model.specs.Services.{asFarAs10}
 use Rattle.rows.specs.declared.Counts.{Counts}
 use Rattle.rows.specs.declared.Verdict.{Verdict}
-use Rattle.rows.specs.Tables.{countsOf, verdictRefusal}
+use Rattle.rows.specs.Tables.{verdictRefusal}
 use Rattle.rows.specs.Told.{entry}
 use Rattle.regions.specs.Moves.{MoveRows, MovesTold}
 use Rattle.closure.specs.Covers.{InSets, CoverTold}
@@ -27,7 +27,7 @@ pub record MergeRows (c : Counts) (place sizes pre post : List ℕ) : Type 0 whe
   pub moves : MoveRows pre post
   pub counts : (k : ℕ) → k < c .machines → entry sizes k ≤ 64
   pub starts : (k : ℕ) → k < c .machines → entry place (k * 256 + c .initial) < 64
-  pub ends : Ends pre post
+  pub ends : Ends (c .machines) (c .events) pre post
 
 -- the new numbers are those of the groups
 pub record NewNumbers (x : Seen) (m size events groups : ℕ) (number : List ℕ) : Type 0 where
@@ -60,7 +60,10 @@ pub record SheetTold (v : Input) (ms : Decomposition) (place sizes pre post : Li
 -- the rows hold a text that is past 10
 pub record HeldPast10 (s : List ℕ) (v : Input) (c : Counts) (place sizes pre post excited : List ℕ) : Type 0 where
   pub passes : asFarAs10 s ≡ passed v
-  pub counted : c ≡ countsOf v
+  pub states : c .states ≡ v .states
+  pub initial : c .initial ≡ v .initial
+  pub events : c .events ≡ length (v .names)
+  pub machines : c .machines ≡ length (v .machines)
   pub counts : (k : ℕ) (m : Machine) → At (v .machines) k m → entry sizes k ≡ length (m .places)
   pub cover : CoverTold (system v) (v .machines) pre post place excited
 

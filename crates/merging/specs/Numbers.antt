@@ -12,7 +12,6 @@ use Rattle.state_set.specs.Rows.{memberAt}
 use Rattle.rows.specs.Told.{entry}
 use Rattle.regions.specs.Moves.{moveAt, MoveRows}
 use Rattle.closure.specs.Covers.{onMachine}
-use Rattle.merging.specs.Bars.{Ends}
 use Rattle.merging.specs.Groups.{ungrouped, grown, grouped, renumbered}
 
 -- each of the first sets has all of n states
@@ -54,7 +53,7 @@ pub record Renumbered (number : List ℕ) (m events : ℕ) (pre post pre2 post2 
   pub moves : (e : ℕ) → e < events → moveAt pre2 post2 m e ≡ renumbered (entry number) (moveAt pre post m e)
   pub others-pre : (i : ℕ) → ((e : ℕ) → ¬ (i ≡ e * 16 + m)) → entry pre2 i ≡ entry pre i
   pub others-post : (i : ℕ) → ((e : ℕ) → ¬ (i ≡ e * 16 + m)) → entry post2 i ≡ entry post i
-  pub ends : Ends pre2 post2
+  pub ends : (e : ℕ) → e < events → entry pre2 (e * 16 + m) < 64 → entry post2 (e * 16 + m) < 64
 
 -- set c has the states of the first places of machine m that have the number c
 pub record United (sets : List ℕ) (m size : ℕ) (number unions : List ℕ) : Type 0 where

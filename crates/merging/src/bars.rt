@@ -102,7 +102,7 @@ fn bar_event(
     e: usize,
     bars: &mut [u64],
 )
-    requires { ⌜ (m < 16) × (size ≤ 64) × (e < 64) × (length (now bars) ≡ 256) × Ends (now pre) (now post) ⌝ }
+    requires { ⌜ (m < 16) × (size ≤ 64) × (e < 64) × (length (now bars) ≡ 256) × Ends (suc m) (suc e) (now pre) (now post) ⌝ }
     requires { ⌜ SeenSizes (suc m) (suc e) (seen (now sets) (now pre) (now post) (now earlier) (now later) (now excited)) ⌝ }
     ensures { λ _. ⌜ EventPaired (seen (now (sets .entry)) (now (pre .entry)) (now (post .entry)) (now (earlier .entry)) (now (later .entry)) (now (excited .entry))) m size e (now (bars .entry)) (now (bars .exit)) ⌝ }
 {
@@ -131,7 +131,7 @@ pub fn bar_places(
     bars: &mut [u64],
 )
     requires { ⌜ (m < 16) × (size ≤ 64) × (events ≤ 64) × (length (now bars) ≡ 256) × Barring (seen (now sets) (now pre) (now post) (now earlier) (now later) (now excited)) m size 0 (now bars) ⌝ }
-    requires { ⌜ SeenSizes (suc m) events (seen (now sets) (now pre) (now post) (now earlier) (now later) (now excited)) × Ends (now pre) (now post) ⌝ }
+    requires { ⌜ SeenSizes (suc m) events (seen (now sets) (now pre) (now post) (now earlier) (now later) (now excited)) × Ends (suc m) events (now pre) (now post) ⌝ }
     ensures { λ _. ⌜ Barring (seen (now (sets .entry)) (now (pre .entry)) (now (post .entry)) (now (earlier .entry)) (now (later .entry)) (now (excited .entry))) m size events (now (bars .exit)) ⌝ }
 {
     let mut e = 0;

@@ -45,7 +45,7 @@ fn new_numbers(
     number: &mut [u8],
 ) -> usize
     requires { ⌜ (m < 16) × (size ≤ 64) × (events ≤ 64) × SmallRow (now number) ⌝ }
-    requires { ⌜ SeenSizes (suc m) events (seen (now sets) (now pre) (now post) (now earlier) (now later) (now excited)) × Ends (now pre) (now post) ⌝ }
+    requires { ⌜ SeenSizes (suc m) events (seen (now sets) (now pre) (now post) (now earlier) (now later) (now excited)) × Ends (suc m) events (now pre) (now post) ⌝ }
     ensures { λ r. ⌜ NewNumbers (seen (now (sets .entry)) (now (pre .entry)) (now (post .entry)) (now (earlier .entry)) (now (later .entry)) (now (excited .entry))) m size events r (now (number .exit)) ⌝ }
 {
     let mut bars = [0u64; WORDS];

@@ -1,6 +1,6 @@
 // The new number of each place of a machine, and the rows with the new numbers.
 ghost use mathlib.Core.Path.{_≡_};
-ghost use Prim.Native.Nat.{ℕ, _+_, _*_, _<_, _≤_};
+ghost use Prim.Native.Nat.{ℕ, suc, _+_, _*_, _<_, _≤_};
 ghost use lib.Dec.{ltb};
 ghost use lib.ListN.{length};
 ghost use Rattle.rows.specs.Told.{entry};
@@ -96,7 +96,7 @@ fn new_pre(p: u8, q: u8) -> u8
 // The moves of machine m by the new numbers.
 pub fn renumber_moves(number: &[u8], m: usize, events: usize, pre: &mut [u8], post: &mut [u8])
     requires { ⌜ (m < 16) × (events ≤ 64) × SmallRow (now number) ⌝ }
-    requires { ⌜ MoveRows (now pre) (now post) × Ends (now pre) (now post) ⌝ }
+    requires { ⌜ MoveRows (now pre) (now post) × Ends (suc m) events (now pre) (now post) ⌝ }
     ensures { λ _. ⌜ Renumbered (now (number .entry)) m events (now (pre .entry)) (now (post .entry)) (now (pre .exit)) (now (post .exit)) ⌝ }
 {
     let mut e = 0;

@@ -1,7 +1,7 @@
 use native.Mathlib.Omega.{arith}
 use mathlib.Core.Path.{refl}
 use borrow.Author.Needs.{needs}
-use Rattle.merging.proofs.Machines.{this-machine}
+use Rattle.merging.proofs.Machines.{this-end, this-machine}
 use Rattle.merging.proofs.Numbering.{zeros-small}
 use Rattle.merging.proofs.merge_machine.Statement.{statement}
 use Rattle.merging.proofs.merge_machine.Tie as tie
@@ -19,7 +19,7 @@ new-numbers-requires : tie.Need-new-numbers-requires
 new-numbers-requires c κs =
     let p = c .before .before .before .before .before .before .before .before .before .before .before .before .before .pre in
     let r = p .0 .2 in
-    ((omega (arith, p .0 .0, p .0 .1 .machines), r .counts _ (p .0 .0), p .0 .1 .events, zeros-small), (this-machine (p .1) (p .0 .0), r .ends))
+    ((omega (arith, p .0 .0, p .0 .1 .machines), r .counts _ (p .0 .0), p .0 .1 .events, zeros-small), (this-machine (p .1) (p .0 .0), this-end (r .ends) (p .0 .0) (omega arith)))
 
 slice-aggregate-renumber-moves : tie.Need-slice-aggregate-renumber-moves
 slice-aggregate-renumber-moves c = search needs
@@ -28,7 +28,7 @@ renumber-moves-requires : tie.Need-renumber-moves-requires
 renumber-moves-requires c κs =
     let p = c .before .before .before .before .before .before .before .before .before .before .before .before .before .before .before .before .before .before .pre in
     let r = p .0 .2 in
-    ((omega (arith, p .0 .0, p .0 .1 .machines), p .0 .1 .events, c .before .before .before .before .new-numbers .ensures .numbered .row), (r .moves, r .ends))
+    ((omega (arith, p .0 .0, p .0 .1 .machines), p .0 .1 .events, c .before .before .before .before .new-numbers .ensures .numbered .row), (r .moves, this-end (r .ends) (p .0 .0) (omega arith)))
 
 mul-start : tie.Need-mul-start
 mul-start c = search needs

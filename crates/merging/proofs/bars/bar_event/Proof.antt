@@ -32,7 +32,7 @@ shared-slice-read-bar c = search needs
 bar-requires : tie.Need-bar-requires
 bar-requires c κs =
     let p = c .before .before .before .before .before .before .before .before .before .before .before .before .before .before .before .before .pre in
-    (omega arith, p .0 .4 .post-place _ (omega arith), p .0 .3)
+    (omega arith, p .0 .4 .post-place _ _ (omega arith) (omega arith) (omega arith), p .0 .3)
 
 bar-met-requires : tie.Need-bar-met-requires
 bar-met-requires c κs = search needs

@@ -2,6 +2,7 @@ use Prim.Native.Nat.{_-_}
 use native.Mathlib.Omega.{arith}
 use borrow.Author.Needs.{needs}
 use Rattle.merging.specs.Bars.{seen}
+use Rattle.merging.proofs.Machines.{this-end}
 use Rattle.merging.proofs.Pairing.{first-events, Passed, pass-start, pass-more, pass-end}
 use Rattle.merging.proofs.bars.bar_places.Statement.{statement}
 use Rattle.merging.proofs.bars.bar_places.Tie as tie
@@ -18,7 +19,7 @@ loop-holds c = pass-start (c .before .before .before .before .before .before .be
 bar-event-requires : tie.Need-bar-event-requires Inv-loop μ-loop
 bar-event-requires c κs =
     let p = c .before .before .before .before .before .before .before .before .before .before .pre in
-    ((p .0 .0, p .0 .1, omega arith, c .before .before .loop .inv .barring .words, p .1 .1), first-events (p .1 .0) (c .before .loop-test .taken))
+    ((p .0 .0, p .0 .1, omega arith, c .before .before .loop .inv .barring .words, this-end (p .1 .1) (omega arith) (omega arith)), first-events (p .1 .0) (c .before .loop-test .taken))
 
 add-e : tie.Need-add-e Inv-loop μ-loop
 add-e c = search needs

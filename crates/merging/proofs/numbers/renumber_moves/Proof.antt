@@ -40,7 +40,7 @@ wide-requires-2 c κs = search needs
 
 shared-slice-read-q : tie.Need-shared-slice-read-q Inv-loop μ-loop
 shared-slice-read-q c =
-    let l = c .before .before .before .before .before .before .before .before .loop .inv .ends .post-place (c .before .before .before .before .before .before .before .before .loop .e * 16 + c .before .before .before .before .before .before .before .before .before .before .before .before .args .m) (omega arith) in search needs
+    let l = c .before .before .before .before .before .before .before .before .loop .inv .ends (c .before .before .before .before .before .before .before .before .loop .e) (c .before .before .before .before .before .before .before .loop-test .taken) (omega arith) in search needs
 
 new-pre-requires : tie.Need-new-pre-requires Inv-loop μ-loop
 new-pre-requires c κs = search needs
