@@ -21,7 +21,7 @@ use stages::read_as_far_as_12;
 use transition_system::EXCITATION_WORDS;
 
 // The sheet into the first bytes of the lent buffer, if it is long enough.
-fn hand_over<'a>(
+pub fn hand_over<'a>(
     text: &[u8],
     c: Counts,
     name_at: &'a [usize],

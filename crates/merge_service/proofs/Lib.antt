@@ -1,0 +1,4 @@
+-- The laws behind Merge.
+
+-- Merge, by its ways out
+pub mod Handing

@@ -193,6 +193,7 @@ module _ (v : Input) (b : Within (system v)) (front back : Decomposition) (m : M
       told-new : SheetTold v (front ++ (n ∷ back)) place2 sizes2 pre2 post2
       told-new =
           record {
+            as-many = state-after (system v) b (v .machines) front back m (st .state) (memberAt (y .numbers .bars)) barred .size;
             counts =
                 each (λ k z. entry sizes2 k ≡ length (z .places))
                 (ap (λ (l : List ℕ). entry l (length front)) (y .count) ∙ getD-set-same sizes (length front) (y .groups) 0 (omega (arith, front-16, rows .sizes-size)) ∙ numbered .count ∙ sym (count-after (system v) b (v .machines) front back m (st .state) (memberAt (y .numbers .bars)) barred))

@@ -108,6 +108,7 @@ module _ {c : Counts} {x : Seen} {place0 sizes0 : List ℕ} where
           state = record { good = left .good; listed = left .left .listed; covers = t .covered; coarser = coarser-refl (system v) (v .machines); size = refl };
           told =
               record {
+                as-many = refl;
                 counts = t .held .counts;
                 starts = λ k m a. t .held .cover .places .each k (v .initial) m a (b .initial);
                 moves = t .held .cover .moves;

@@ -51,8 +51,9 @@ pub record MachineMerged (c : Counts) (x : Seen) (m : ℕ) (place sizes place2 s
   pub count : sizes2 ≡ set sizes m groups
   pub met : MachineMet (x .sets) m (entry sizes m) number pre2 (c .events) (x .earlier) earlier2
 
--- the rows of a sheet tell these machines: how many places each has, where it starts, its moves
+-- the rows of a sheet tell these machines, as many as the text has: how many places each has, where it starts, its moves
 pub record SheetTold (v : Input) (ms : Decomposition) (place sizes pre post : List ℕ) : Type 0 where
+  pub as-many : length ms ≡ length (v .machines)
   pub counts : (k : ℕ) (m : Machine) → At ms k m → entry sizes k ≡ length (m .places)
   pub starts : (k : ℕ) (m : Machine) → At ms k m → entry place (k * 256 + v .initial) ≡ placeOf m (v .initial)
   pub moves : MovesTold (system v) ms pre post
