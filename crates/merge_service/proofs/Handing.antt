@@ -1,24 +1,21 @@
 -- Merge, by its ways out.
-use Prim.Native.Nat.{ℕ, _+_, _*_, _<_, _≤_}
+use Prim.Native.Nat.{ℕ, _+_, _*_, _<_}
 use native.Mathlib.Omega.{arith}
 use mathlib.Core.Path.{_≡_, refl, ap, sym, _∙_, subst}
 use mathlib.Core.List.{List, []}
-use mathlib.Core.Option.{none, some, Option·none-ne-some, Option·some-injective}
-use lib.ListN.{length}
+use mathlib.Core.Option.{some, Option·none-ne-some, Option·some-injective}
 use Rattle.model.specs.declared.Refusal as D
 use Rattle.model.specs.Cases.{tabled}
 use Rattle.model.specs.Lists.{At}
-use Rattle.model.specs.Refusal.{Refusal, Checked, refused, passed, unless}
-use Rattle.model.specs.TransitionSystem.{Transition, TransitionSystem}
+use Rattle.model.specs.Refusal.{Refusal, refused, passed}
+use Rattle.model.specs.TransitionSystem.{TransitionSystem}
 use Rattle.model.specs.Product.{Move}
-use Rattle.model.specs.Machine.{Machine, placeOf, move, coverRefusal}
+use Rattle.model.specs.Machine.{Machine, placeOf, move}
 use Rattle.model.specs.Merging.{merged, mergedInput}
 use Rattle.model.specs.Text.{Input, system}
 use Rattle.model.specs.Sheet.{sheet}
-use Rattle.model.specs.Services.{asFarAs10, asFarAs12, lend, merge}
+use Rattle.model.specs.Services.{asFarAs12, lend, merge}
 use Rattle.model.proofs.Positions.{below-at, at-mem}
-use Rattle.model.proofs.Bounds.{Within}
-use Rattle.model.proofs.Places.{Good}
 use Rattle.model.proofs.Demands.{Left10, left10, demand2}
 use Rattle.model.proofs.Moves.{MoveView, moves, stays, move-view, moveOf}
 use Rattle.rows.specs.declared.Counts.{Counts}
@@ -29,10 +26,9 @@ use Rattle.rows.specs.Tables.{verdictRefusal, tablesIn}
 use Rattle.rows.specs.Told.{entry, systemOf}
 use Rattle.rows.proofs.Telling.{told-events, told-initial}
 use Rattle.rows.proofs.Names.{told-names}
-use Rattle.rows.specs.Names.{namesIn}
 use Rattle.sheet.specs.Rows.{SheetReady}
 use Rattle.sheet.specs.Written.{rowSheet}
-use Rattle.sheet.proofs.Told.{LinesTold, lines-sheet}
+use Rattle.sheet.proofs.Told.{lines-sheet}
 use Rattle.closure.specs.Covers.{CountsBounded}
 use Rattle.merging.proofs.Barring.{place-low}
 use Rattle.merging.proofs.Telling.{move-on}

@@ -3,7 +3,6 @@ use Prim.Native.Nat.{ℕ}
 use mathlib.Core.Path.{_≡_, refl, ap, sym, _∙_}
 use mathlib.Core.List.{List}
 use mathlib.Core.Option.{none}
-use lib.ListN.{length}
 use Rattle.model.specs.Machine.{coverRefusal}
 use Rattle.model.specs.Text.{Input, system}
 use Rattle.model.specs.Cases.{tabled}
@@ -14,7 +13,7 @@ use Rattle.rows.specs.declared.Verdict.the-variants.{Refused, Passed}
 use Rattle.rows.specs.Tables.{verdictRefusal}
 use Rattle.closure.specs.Covers.{PlaceSets, CoverJudged}
 use Rattle.closure.proofs.Cover.{no-pass, sets-told}
-use Rattle.merging.specs.Bars.{Seen, seen, Later}
+use Rattle.merging.specs.Bars.{seen, Later}
 use Rattle.merging.specs.Numbers.{Filled}
 use Rattle.merging.specs.Merges.{MergeRows, SheetRows, HeldPast10, MachinesMerged, Merges}
 

@@ -5,7 +5,7 @@ use mathlib.Core.Path.{_≡_, refl, sym, _∙_, subst}
 use mathlib.Core.Logic.{_⊎_, inl, inr, _↔_}
 use mathlib.Core.Bool.{_&&_}
 use mathlib.Core.List.{List}
-use lib.Dec.{T, ltb, ltb→lt, lt→ltb}
+use lib.Dec.{T, ltb→lt, lt→ltb}
 use lib.ListN.{length, replicate}
 use Rattle.model.proofs.Laws.{below-suc, order, and-l, and-r, and-i}
 use Rattle.state_set.specs.declared.StateSet.{StateSet}

@@ -1,5 +1,5 @@
 -- Rows for all machines, at one of them.
-use Prim.Native.Nat.{ℕ, suc, _+_, _*_, _<_, _≤_}
+use Prim.Native.Nat.{ℕ, suc, _<_, _≤_}
 use native.Mathlib.Omega.{arith}
 use mathlib.Core.List.{List}
 use Rattle.merging.specs.Bars.{Seen, SeenSizes, Ends}

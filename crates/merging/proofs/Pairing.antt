@@ -5,7 +5,7 @@ use mathlib.Core.Path.{_≡_, refl, ap, sym, _∙_, subst}
 use mathlib.Core.Logic.{_⊎_, inl, inr, _↔_}
 use mathlib.Core.Bool.{Bool, true, false, not, _&&_, _||_}
 use mathlib.Core.List.{List}
-use lib.Dec.{T, eqb, ltb, eqb→eq, ltb→lt, lt→ltb}
+use lib.Dec.{T, eqb, eqb→eq, ltb→lt, lt→ltb}
 use lib.ListN.{length, replicate, length-replicate}
 use Rattle.model.specs.Lists.{isSome, lowest}
 use Rattle.model.proofs.Laws.{and-l, and-r, and-i, or-l, or-r, or-e, eqb-of, below-suc}

@@ -1,22 +1,19 @@
 -- The pass over the machines, as the rows tell it: those before machine m are merged, those from it on are as the text has them.
-use Prim.Native.Nat.{ℕ, zero, suc, _+_, _*_, _<_, _≤_}
+use Prim.Native.Nat.{ℕ, suc, _+_, _*_, _<_, _≤_}
 use native.Mathlib.Omega.{arith}
-use mathlib.Core.Path.{_≡_, refl, ap, ap₂, sym, _∙_, subst}
+use mathlib.Core.Path.{_≡_, refl, ap, sym, _∙_, subst}
 use mathlib.Core.Logic.{_⊎_, inl, inr, _↔_}
-use mathlib.Core.Bool.{Bool, true, false, not, cond, _&&_, _||_}
-use mathlib.Core.List.{List, [], _∷_, _++_, List·Memᴰ, List·Memᴰ·head, List·Memᴰ·tail}
-use mathlib.Core.Option.{Option, none, some, Option·none-ne-some, Option·some-injective}
-use lib.Dec.{T, eqb, ltb, eqb→eq, ltb→lt, lt→ltb}
-use lib.ListN.{length, getD, set, take, drop}
-use lib.Seq.{getD-set-same, getD-set-other, length-take-le}
+use mathlib.Core.Bool.{not, _&&_, _||_}
+use mathlib.Core.List.{List, _∷_, _++_}
+use lib.Dec.{T, eqb, ltb, eqb→eq, lt→ltb}
+use lib.ListN.{length, set}
+use lib.Seq.{getD-set-same, getD-set-other}
 use Rattle.model.specs.Lists.{At}
-use Rattle.model.specs.TransitionSystem.{Transition, TransitionSystem}
-use Rattle.model.specs.Product.{Move}
-use Rattle.model.specs.Machine.{Machine, Decomposition, placeIn, placeOf, move, inPre, ready, common, excited}
+use Rattle.model.specs.Machine.{Machine, Decomposition, placeIn, placeOf, move, ready, common, excited}
 use Rattle.model.specs.Merging.{placeCount, mergeTimes}
 use Rattle.model.specs.Text.{Input, system}
-use Rattle.model.proofs.Laws.{dec, contra, and-l, and-r, and-i, or-l, or-r, or-e, order, every-intro, every-elim, cond-false, below-suc, eqb-of}
-use Rattle.model.proofs.Positions.{at-below, below-at, at-mem, mem-at, at-same, at-left, left-at, at-middle, split-at}
+use Rattle.model.proofs.Laws.{dec, contra, and-l, and-r, and-i, order, every-intro, every-elim, below-suc, eqb-of}
+use Rattle.model.proofs.Positions.{at-below, below-at, at-same, at-middle}
 use Rattle.model.proofs.Bounds.{Within}
 use Rattle.model.proofs.Places.{Good}
 use Rattle.model.proofs.Merging.{State}
@@ -24,18 +21,18 @@ use Rattle.model.proofs.Moves.{MoveView, moves, stays, move-view}
 use Rattle.state_set.specs.Rows.{memberAt}
 use Rattle.rows.specs.declared.Counts.{Counts}
 use Rattle.rows.specs.Told.{entry}
-use Rattle.regions.specs.Moves.{moveAt, MoveRows, MovesTold}
+use Rattle.regions.specs.Moves.{moveAt}
 use Rattle.closure.specs.Covers.{onMachine, meets}
 use Rattle.merging.specs.Groups.{grouped, renumbered}
-use Rattle.merging.specs.Bars.{Seen, seen, Later, Barring}
-use Rattle.merging.specs.Numbers.{Numbered, Renumbered, United, Narrowed}
+use Rattle.merging.specs.Bars.{Seen, Later, Barring}
+use Rattle.merging.specs.Numbers.{Numbered, United}
 use Rattle.merging.specs.Merges.{MergeRows, MachineMerged, SheetTold}
-use Rattle.merging.proofs.Middle.{mid-other, mid-here, count-mid, ready-none, ready-some}
+use Rattle.merging.proofs.Middle.{mid-here, count-mid}
 use Rattle.merging.proofs.Barring.{Barred, place-low}
 use Rattle.merging.proofs.Joined.{joined}
 use Rattle.merging.proofs.Grouping.{machine-merged, state-after, place-after, move-after, count-after}
 use Rattle.merging.proofs.Others.{other-at, at-other, replaced, ready-row}
-use Rattle.merging.proofs.Telling.{OnRow, on-move, move-on, RowsTell, says}
+use Rattle.merging.proofs.Telling.{RowsTell, says}
 
 -- the machines with the first m merged, and the rows as they are then; `common` are the states common to the pre-places of each event on these m
 pub record Standing (v : Input) (b : Within (system v)) (ms : Decomposition) (m : ℕ) (place sizes pre post earlier : List ℕ) : Type 0 where

@@ -3,7 +3,7 @@ use Prim.Native.Nat.{ℕ, _+_, _*_, _<_, _≤_}
 use native.Mathlib.Omega.{arith}
 use mathlib.Core.Path.{_≡_, refl, ap, sym, _∙_, subst}
 use mathlib.Core.Logic.{_⊎_, inl, inr, _↔_}
-use mathlib.Core.Bool.{Bool, true, false, not, cond, _&&_}
+use mathlib.Core.Bool.{Bool, not, _&&_}
 use mathlib.Core.List.{List, _++_}
 use mathlib.Core.Option.{Option, none, some, Option·none-ne-some, Option·some-injective}
 use lib.Dec.{T, eqb, ltb, eqb→eq, ltb→lt, lt→ltb}
@@ -12,7 +12,7 @@ use Rattle.model.specs.Lists.{isSome, lowest}
 use Rattle.model.specs.TransitionSystem.{TransitionSystem}
 use Rattle.model.specs.Product.{Move}
 use Rattle.model.specs.Machine.{Machine, Decomposition, placeOf, move, common, excited}
-use Rattle.model.proofs.Laws.{dec, not-T, contra, and-l, and-r, and-i, eqb-of, cond-true, cond-false, isSome-none, lowest-none, Lowest, found, absent, lowest-view}
+use Rattle.model.proofs.Laws.{dec, contra, and-l, and-r, and-i, eqb-of, cond-true, cond-false, isSome-none, lowest-none, Lowest, found, absent, lowest-view}
 use Rattle.state_set.specs.Rows.{memberAt}
 use Rattle.rows.specs.Told.{entry}
 use Rattle.regions.specs.Moves.{moveAt}

@@ -1,8 +1,8 @@
 -- Each machine in turn: the loop over the machines, and what it leaves.
-use Prim.Native.Nat.{ℕ, zero, suc, _+_, _*_, _<_, _≤_}
+use Prim.Native.Nat.{ℕ, suc, _+_, _*_, _<_, _≤_}
 use native.Mathlib.Omega.{arith}
 use mathlib.Core.Path.{_≡_, refl, ap, sym, _∙_, subst}
-use mathlib.Core.Logic.{_⊎_, inl, inr, _↔_}
+use mathlib.Core.Logic.{_⊎_, inl, inr}
 use mathlib.Core.Bool.{not}
 use mathlib.Core.List.{List, _∷_, _++_}
 use mathlib.Core.Option.{none}
@@ -13,7 +13,6 @@ use Rattle.model.specs.Lists.{At}
 use Rattle.model.specs.Machine.{Machine, Decomposition, coverRefusal, excited}
 use Rattle.model.specs.Merging.{placeCount, mergeTimes, mergedBelow, merged}
 use Rattle.model.specs.Text.{Input, system}
-use Rattle.model.specs.Table.{Passes}
 use Rattle.model.proofs.Laws.{dec, contra, eqb-of}
 use Rattle.model.proofs.Positions.{below-at, split-at}
 use Rattle.model.proofs.Bounds.{Within}
@@ -25,7 +24,7 @@ use Rattle.rows.specs.Told.{entry}
 use Rattle.closure.specs.Covers.{InSets}
 use Rattle.merging.specs.Bars.{Seen, seen, Later}
 use Rattle.merging.specs.Numbers.{Filled}
-use Rattle.merging.specs.Merges.{MergeRows, MachineMerged, SheetTold, SheetRows, HeldPast10, MachinesMerged}
+use Rattle.merging.specs.Merges.{MergeRows, MachineMerged, SheetTold, HeldPast10, MachinesMerged}
 use Rattle.merging.proofs.Passing.{Standing, Given, standing-next}
 
 -- ---- the rows keep their bounds

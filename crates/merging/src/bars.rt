@@ -4,7 +4,6 @@
 ghost use mathlib.Core.Path.{_≡_};
 ghost use Prim.Native.Nat.{ℕ, suc, _+_, _*_, _<_, _≤_};
 ghost use lib.ListN.{length};
-ghost use Rattle.regions.specs.Moves.{MoveRows};
 ghost use Rattle.state_set.specs.Member.{member};
 ghost use Rattle.merging.specs.Bars.{Full, Extends, Later, haveInCommon, Paired, MetPaired, openIn, seen, SeenSizes, EventPaired, Barring, Ends};
 use closure::meet_pre;

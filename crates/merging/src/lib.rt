@@ -1,5 +1,4 @@
 // Merge: which places of each machine become one, and the rows of the machines that this leaves.
-ghost use mathlib.Core.Option.{none};
 ghost use mathlib.Core.Path.{_≡_};
 ghost use Prim.Native.Nat.{suc, _+_, _*_, _<_, _≤_};
 ghost use lib.ListN.{length};

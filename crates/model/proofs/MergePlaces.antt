@@ -91,8 +91,8 @@ merged-places i j m h k =
     record {
       one-fewer = merge-length i j (m .places) h k;
       both = merge-both i j (m .places) h;
-      lower = merge-lower i j (m .places) h;
-      higher = merge-higher i j (m .places) h;
+      below = merge-lower i j (m .places) h;
+      above = merge-higher i j (m .places) h;
     }
 
 -- ---- each state is listed as often as before

@@ -249,12 +249,12 @@ module _ (p : TransitionSystem) (b : Within p) where
       to x =
           let w = merge-can k i j ms (x .0) in
           let v = count-machine k ms (omega (arith, x .1)) in
-          record { machine = v .0; numbered = v .1; lower = w .0; higher = subst (λ (z : ℕ). j < z) (count-at k ms (v .0) (v .1)) (x .1); passes = covered (w .0) (x .1) .0 (w .1) }
+          record { machine = v .0; numbered = v .1; lower = w .0; higher = subst (λ (z : ℕ). j < z) (count-at k ms (v .0) (v .1)) (x .1); covered = covered (w .0) (x .1) .0 (w .1) }
 
       from : Mergeable p k ms i j → (T (mergeable p k ms i j) × (j < placeCount k ms))
       from x =
           let l = subst (λ (z : ℕ). j < z) (sym (count-at k ms (x .machine) (x .numbered))) (x .higher) in
-          (can-merge k i j ms (x .lower) (covered (x .lower) l .1 (x .passes)), l)
+          (can-merge k i j ms (x .lower) (covered (x .lower) l .1 (x .covered)), l)
 
   settled-none : (os : Decomposition) (k : ℕ) (ms : Decomposition) → State os ms → Settled k ms → (i j : ℕ) → ¬ Mergeable p k ms i j
   settled-none os k ms s f i j x = let w = mergeable-iff os k i j ms s .1 x in contra (mergeable p k ms i j) (f i j (w .1)) (w .0)

@@ -1,5 +1,6 @@
 -- Merging places of a machine. Document 02, slip 4, "Fewer places on a board".
--- Believed: `mergeIn`, which `MergedPlaces` describes by the places' numbers, and `withMachines`. Held: the pass by merges-hold (specs/Merged, proofs/Merges).
+-- Believed: `withMachines`, by which the merged split's sheet has the plan's names. Held by merges-hold: one merge (`places`, `in-machine`, `others`, `as-many`), the pass
+-- (`one-result`, `result`).
 use Prim.Native.Nat.{ℕ, zero, suc}
 use mathlib.Core.Bool.{Bool, not, _&&_}
 use mathlib.Core.List.{List, [], _∷_, _++_}

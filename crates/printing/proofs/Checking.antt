@@ -124,7 +124,7 @@ merge-fits s v e =
     let w = sheet (mergedInput v) in
     let passes : merge s w .answer ≡ passed (length w) = rw e (ap (λ (l : Lent ℕ). l .answer) (lent-all w w (omega arith))) in
     let found = merges-hold s .lends w .accepts (length w) .0 passes in
-    omega (arith, found .2, ap (λ (x : Input). length (sheet x)) (found .1 .same), found .1 .merged .fits)
+    omega (arith, found .2, ap (λ (x : Input). length (sheet x)) (found .1 .same), merges-hold s .result (found .1 .value) (found .1 .checked) (found .1 .split) (found .1 .left) .fits)
 
 module _ (s out : List ℕ) (h : length out ≡ 32768) {a : Checked ℕ} where
   pub merge-left : a ≡ merge s out .answer → FitsBuffer a

@@ -1,4 +1,3 @@
-use native.Mathlib.Omega.{arith}
 use borrow.Author.Needs.{needs}
 use Rattle.merging.proofs.Judging.{sheet-rows, merge-refused, merge-passed}
 use Rattle.merging.proofs.merge_with.Statement.{statement}

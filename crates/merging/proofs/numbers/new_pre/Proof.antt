@@ -1,6 +1,5 @@
 -- `merging::numbers::new_pre` meets its contract.
 use Prim.Native.Nat.{_-_}
-use borrow.Author.Needs.{needs}
 use borrow.Author.Tests.{eq-eqb, ne-eqb}
 use Rattle.merging.specs.Numbers.{newPre}
 use Rattle.merging.proofs.numbers.new_pre.Statement.{statement}
