@@ -1,0 +1,2 @@
+-- Splits that are merged.
+pub mod Examples
