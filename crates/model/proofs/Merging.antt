@@ -180,7 +180,7 @@ module _ (p : TransitionSystem) (b : Within p) where
     pub below-keeps : (k : ℕ) (ms : Decomposition) → Q ms → Q (mergedBelow k p ms)
     unfolding mergedBelow
     below-keeps zero ms q = q
-    below-keeps (suc k) ms q = times-keeps (placeCount k (mergedBelow k p ms)) k (mergedBelow k p ms) (below-keeps k ms q)
+    below-keeps (suc k) ms q = times-keeps _ _ _ (below-keeps k ms q)
 
   times-state : (os : Decomposition) (n k : ℕ) (ms : Decomposition) → State os ms → State os (mergeTimes n p k ms)
   times-state os = times-keeps (State os) (λ k i j ms. one-merge os k i j ms)
@@ -230,11 +230,11 @@ module _ (p : TransitionSystem) (b : Within p) where
   pub below-settled : (os : Decomposition) (n k : ℕ) (ms : Decomposition) → State os ms → k < n → Settled k (mergedBelow n p ms)
   unfolding mergedBelow
   below-settled os zero k ms s h = absurd (omega arith)
-  below-settled os (suc n) k ms s h = go (below-suc k n h) (below-settled os n k ms s)
+  below-settled os (suc n) k ms s h = go _ (below-suc k n h) (below-settled os n k ms s) (omega arith)
     where
-      go : (k < n) ⊎ (k ≡ n) → (k < n → Settled k (mergedBelow n p ms)) → Settled k (mergeTimes (placeCount n (mergedBelow n p ms)) p n (mergedBelow n p ms))
-      go (inl x) ih = times-settled os (placeCount n (mergedBelow n p ms)) k n (mergedBelow n p ms) (below-state os n ms s) (λ (e : k ≡ n). omega (arith, e, x)) (ih x)
-      go (inr e) ih = rw e (times-enough (placeCount n (mergedBelow n p ms)) n (mergedBelow n p ms) (omega arith))
+      go : (c : ℕ) → (k < n) ⊎ (k ≡ n) → (k < n → Settled k (mergedBelow n p ms)) → placeCount n (mergedBelow n p ms) ≤ c → Settled k (mergeTimes c p n (mergedBelow n p ms))
+      go c (inl x) ih l = times-settled os c k n (mergedBelow n p ms) (below-state os n ms s) (λ (e : k ≡ n). omega (arith, e, x)) (ih x)
+      go c (inr e) ih l = rw e (times-enough c n (mergedBelow n p ms) l)
 
   -- ---- in the words of the paper
 
@@ -279,7 +279,7 @@ module _ (p : TransitionSystem) (b : Within p) where
   below-pass os (suc k) ms ns s h x =
       let w = below-state os k ms s in
       below-pass os k ms ns s (omega (arith, h))
-      (times-pass os (placeCount k (mergedBelow k p ms)) k (mergedBelow k p ms) ns w (omega arith) (omega (arith, w .size, s .size, h)) x)
+      (times-pass os _ k (mergedBelow k p ms) ns w (omega arith) (omega (arith, w .size, s .size, h)) x)
 
   pub merged-pass : (ms : Decomposition) → State ms ms → Pass p 0 ms (merged p ms)
   unfolding merged
