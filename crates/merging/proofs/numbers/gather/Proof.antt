@@ -88,7 +88,7 @@ load-requires-2 : tie.Need-load-requires-2 Inv-loop μ-loop
 load-requires-2 c κs =
     let d = c .before .before .before .before .before .before in
     let l = low d in
-    let s = start (turn d) .pre .1 in
+    let s = start (turn d) .pre in
     search needs
 
 without-requires-3 : tie.Need-without-requires-3 Inv-loop μ-loop
