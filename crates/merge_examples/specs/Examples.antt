@@ -81,6 +81,8 @@ pub record MergedSheets : Type 0 where
   -- of two equal machines the first gives all its places away, and then the second none
   pub first-to-one-place : MergesTo (ring ++ ring4 ++ ring4) "(accepted 2)\n(machine 0 (places 1) (start 0))\n(machine 1 (places 4) (start 0) (move a 0 1) (move b 1 2) (move c 2 3) (move d 3 0))\n"
   pub beside-halves : MergesTo (ring ++ ring4 ++ halves) "(accepted 2)\n(machine 0 (places 3) (start 0) (move a 0 1) (move b 1 2) (move c 2 1) (move d 1 0))\n(machine 1 (places 2) (start 0) (move b 0 1) (move d 1 0))\n"
+  -- the second is asked beside the merged first
+  pub second-too : MergesTo (ring ++ ring4 ++ "(machine (0 1) (2) (3))\n") "(accepted 2)\n(machine 0 (places 3) (start 0) (move a 0 1) (move b 1 2) (move c 2 1) (move d 1 0))\n(machine 1 (places 2) (start 0) (move b 0 1) (move d 1 0))\n"
   pub higher-close-up : MergesTo (ring ++ halves ++ ring4 ++ otherHalves) "(accepted 3)\n(machine 0 (places 1) (start 0))\n(machine 1 (places 3) (start 0) (move a 0 1) (move b 1 0) (move c 0 2) (move d 2 0))\n(machine 2 (places 2) (start 1) (move a 1 0) (move c 0 1))\n"
   -- the order decides: two pairs can be merged, and after either the other no longer can
   pub two-pairs : asFarAs12 (bytes (ring ++ ring4 ++ ring3)) ≡ passed (ringInput (four ∷ three ∷ []))
@@ -112,6 +114,7 @@ merged-sheets =
       y-start-3 = refl;
       first-to-one-place = refl;
       beside-halves = refl;
+      second-too = refl;
       higher-close-up = refl;
       two-pairs = refl;
       pair-0-1 = refl;

@@ -123,8 +123,12 @@ module _ (p : TransitionSystem) (b : Within p) where
   too-high : (k c d : ℕ) (ms : Decomposition) → placeCount k ms ≤ c → d < placeCount k ms → T (not (mergeable p k ms c d))
   too-high k c d ms h l = not-T (mergeable p k ms c d) (λ t. omega (arith, merge-can k c d ms t .0))
 
+  pair-merged : (k i j : ℕ) (ms : Decomposition) → lowerPlace p k ms ≡ some i → partner p k ms i ≡ some j → mergeFirst p k ms ≡ some (mergeIn k i j ms)
+  unfolding mergeFirst mergeLower mergeWith
+  pair-merged k i j ms e f = rw (e, f)
+
   first-merge : (k : ℕ) (ms : Decomposition) → FirstMerge k ms
-  unfolding mergeFirst lowerPlace mergeLower mergeWith partner isSome
+  unfolding mergeFirst lowerPlace mergeLower partner isSome
   first-merge k ms = go (lowest-view (λ i. isSome (partner p k ms i)) (placeCount k ms))
     where
       none-with : (i : ℕ) → T (not (isSome (partner p k ms i))) → (d : ℕ) → d < placeCount k ms → T (not (mergeable p k ms i d))
@@ -140,7 +144,7 @@ module _ (p : TransitionSystem) (b : Within p) where
         where
           inner : Lowest (mergeable p k ms i) (placeCount k ms) → FirstMerge k ms
           inner (absent f n) = absurd (contra (isSome (partner p k ms i)) (none-isSome (partner p k ms i) f) t)
-          inner (found j f o u n) = at-pair i j (rw (e, f)) (merge-can k i j ms u .0) o (merge-can k i j ms u .1) before
+          inner (found j f o u n) = at-pair i j (pair-merged k i j ms e f) (merge-can k i j ms u .0) o (merge-can k i j ms u .1) before
             where
               before : (c d : ℕ) → Before c d i j → d < placeCount k ms → T (not (mergeable p k ms c d))
               before c d (inl x) y = none-with c (h c x) d y
