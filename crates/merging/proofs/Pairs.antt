@@ -20,7 +20,8 @@ use Rattle.model.proofs.Places.{Good}
 use Rattle.model.proofs.Simulate.{covers-of}
 use Rattle.model.proofs.Passed.{covers-none}
 use Rattle.model.proofs.Coarser.{Coarser, CoarserAll, each, coarser-refl, coarser-trans}
-use Rattle.model.proofs.MergePlaces.{Origin, kept, union, origin, elem-left, elem-right, elem-either, merged-places, merge-listed, merge-coarser}
+use Rattle.model.proofs.MergeNumbers.{merged-places}
+use Rattle.model.proofs.MergePlaces.{Origin, kept, union, origin, elem-left, elem-right, elem-either, merge-listed, merge-coarser}
 use Rattle.model.proofs.Merging.{State, Settled, can-merge, merge-can, in-good, merge-all, merge-length}
 use Rattle.merging.proofs.Middle.{mid-here, merge-mid, count-mid}
 use Rattle.merging.proofs.Barring.{Barred, barred-low, covers-valid, valid-covers}

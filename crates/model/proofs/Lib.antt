@@ -63,9 +63,11 @@ pub mod Naming
 pub mod Refusing
 pub mod Demands
 pub mod Starts
--- merging: coarser machines, one merge, the pass, the merged text, and what request 4 says
+-- merging: coarser machines, one merge, the pass and its one result, the merged text, and what request 4 says
 pub mod Coarser
+pub mod MergeNumbers
 pub mod MergePlaces
 pub mod Merging
+pub mod MergeResult
 pub mod MergedText
 pub mod Merges

@@ -13,7 +13,8 @@ use Rattle.model.specs.Text.{Input, shortest, linesWith, write, MachineL
 use Rattle.model.specs.Merging.{removed, mergePlaces, mergeMachine, mergeIn, placeCount, withMachines}
 use Rattle.model.proofs.ListLaws.{flatMap-append}
 use Rattle.model.proofs.Positions.{at-mem}
-use Rattle.model.proofs.MergePlaces.{Origin, kept, union, origin, merged-places}
+use Rattle.model.proofs.MergeNumbers.{merged-places}
+use Rattle.model.proofs.MergePlaces.{Origin, kept, union, origin}
 
 -- ---- a merged place is written in fewer bytes
 

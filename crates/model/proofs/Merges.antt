@@ -31,8 +31,10 @@ use Rattle.model.proofs.Texts.{limits-of, write-reads}
 use Rattle.model.proofs.Lending.{lends}
 use Rattle.model.proofs.Demands.{Left12, left12, no-fork, demand2, demand3}
 use Rattle.model.proofs.Coarser.{coarser-refl}
-use Rattle.model.proofs.MergePlaces.{elem-left, elem-right, merged-places}
-use Rattle.model.proofs.Merging.{State, merge-all, below-keeps, merged-state, merged-pass, merged-maximal, pass-only, merge-length}
+use Rattle.model.proofs.MergeNumbers.{merged-places}
+use Rattle.model.proofs.MergePlaces.{elem-left, elem-right}
+use Rattle.model.proofs.Merging.{State, merge-all, below-keeps, merged-state, merged-pass, merged-maximal, merge-length}
+use Rattle.model.proofs.MergeResult.{pass-only}
 use Rattle.model.proofs.MergedText.{in-size, merge-limits, Fits, fits-limits}
 
 -- ---- machines that are good pass 8 to 10

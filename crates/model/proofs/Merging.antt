@@ -23,10 +23,10 @@ use Rattle.model.proofs.Simulate.{covers-of}
 use Rattle.model.proofs.Passed.{covers-none}
 use Rattle.model.proofs.Kept.{covered-iff}
 use Rattle.model.proofs.Coarser.{CoarserAll, each, coarser-refl, coarser-trans, covers-finer}
-use Rattle.model.proofs.MergePlaces.{merged-places, merge-good, merge-listed, merge-coarser}
+use Rattle.model.proofs.MergeNumbers.{merged-places}
+use Rattle.model.proofs.MergePlaces.{merge-good, merge-listed, merge-coarser}
 
 -- ---- one merge
-
 pub merge-length : (k i j : ℕ) (ms : Decomposition) → length (mergeIn k i j ms) ≡ length ms
 unfolding mergeIn
 merge-length k i j [] = refl
@@ -98,7 +98,6 @@ module _ (p : TransitionSystem) (b : Within p) where
   both-coarser (suc k) (suc l) i j c d (m ∷ ms) n h x g = each (λ s u ls lu y. y) (both-coarser k l i j c d ms (λ e. n (ap suc e)) h x (λ v y. g v (List·Memᴰ·tail y)))
 
   -- ---- the first merge that can be made
-
   pub can-merge : (k i j : ℕ) (ms : Decomposition) → i < j → coverRefusal p (mergeIn k i j ms) ≡ none → T (mergeable p k ms i j)
   unfolding mergeable
   can-merge k i j ms h n = and-i (ltb i j) (not (isSome (coverRefusal p (mergeIn k i j ms)))) (lt→ltb i j h) (none-isSome (coverRefusal p (mergeIn k i j ms)) n)
@@ -151,7 +150,6 @@ module _ (p : TransitionSystem) (b : Within p) where
               before c d (inr x) y = rw (x .0) (n d (x .1))
 
   -- ---- what is kept from merge to merge
-
   pub record State (os ms : Decomposition) : Type 0 where
     pub good : (m : Machine) → List·Memᴰ m ms → Good p m
     pub listed : (m : Machine) → List·Memᴰ m ms → Listed p m
@@ -193,7 +191,6 @@ module _ (p : TransitionSystem) (b : Within p) where
   below-state os = below-keeps (State os) (λ k i j ms. one-merge os k i j ms)
 
   -- ---- nothing is left to merge
-
   -- what cannot be merged in machine k cannot be merged after a merge in another machine
   still-settled : (os : Decomposition) (k l c d : ℕ) (ms : Decomposition) → State os ms → ¬ (k ≡ l) → c < d → d < placeCount l ms → Settled k ms → Settled k (mergeIn l c d ms)
   still-settled os k l c d ms s n h x f i j y = not-T (mergeable p k (mergeIn l c d ms) i j) again
@@ -240,9 +237,8 @@ module _ (p : TransitionSystem) (b : Within p) where
       go c (inl x) ih l = times-settled os c k n (mergedBelow n p ms) (below-state os n ms s) (λ (e : k ≡ n). omega (arith, e, x)) (ih x)
       go c (inr e) ih l = rw e (times-enough c n (mergedBelow n p ms) l)
 
-  -- ---- in the words of the paper
+  -- ---- in the words of the paper: the test is the statement
 
-  -- the test is the statement
   pub mergeable-iff : (os : Decomposition) (k i j : ℕ) (ms : Decomposition) → State os ms → (T (mergeable p k ms i j) × (j < placeCount k ms)) ↔ Mergeable p k ms i j
   mergeable-iff os k i j ms s = (to, from)
     where
@@ -299,37 +295,3 @@ module _ (p : TransitionSystem) (b : Within p) where
       let w = below-state ms (length ms) ms s in
       settled-none ms k (mergedBelow (length ms) p ms) w
       (below-settled ms (length ms) k ms s (omega (arith, at-below (mergedBelow (length ms) p ms) k (x .machine) (x .numbered), w .size))) i j x
-
--- ---- the words of the paper determine the result
-
--- of two first pairs neither comes before the other
-data Compared (a b i j : ℕ) : Type 0 where
-  same : a ≡ i → b ≡ j → Compared a b i j
-  earlier : Before a b i j → Compared a b i j
-  later : Before i j a b → Compared a b i j
-
-compare : (a b i j : ℕ) → Compared a b i j
-compare a b i j = go (order a i) (order i a) (order b j) (order j b)
-  where
-    go : (a < i) ⊎ (i ≤ a) → (i < a) ⊎ (a ≤ i) → (b < j) ⊎ (j ≤ b) → (j < b) ⊎ (b ≤ j) → Compared a b i j
-    go (inl x) y z w = earlier (inl x)
-    go (inr x) (inl y) z w = later (inl y)
-    go (inr x) (inr y) (inl z) w = earlier (inr (omega arith, z))
-    go (inr x) (inr y) (inr z) (inl w) = later (inr (omega arith, w))
-    go (inr x) (inr y) (inr z) (inr w) = same (omega arith) (omega arith)
-
-pub pass-only : (p : TransitionSystem) (k : ℕ) (ms xs ys : Decomposition) → Pass p k ms xs → Pass p k ms ys → xs ≡ ys
-pass-only p k ms xs ys (merges i j m f x) (merges c d n g y) = go (compare i j c d) (pass-only p k (mergeIn k i j ms) xs ys x)
-  where
-    go : Compared i j c d → (Pass p k (mergeIn k i j ms) ys → xs ≡ ys) → xs ≡ ys
-    go (same e h) ih = ih (rw (e, h) y)
-    go (earlier z) ih = absurd (g i j z m)
-    go (later z) ih = absurd (f c d z n)
-pass-only p k ms xs ys (merges i j m f x) (next l g y) = absurd (g i j m)
-pass-only p k ms xs ys (merges i j m f x) (done l) = absurd (omega (arith, at-below ms k (m .machine) (m .numbered), l))
-pass-only p k ms xs ys (next l f x) (merges i j m g y) = absurd (f i j m)
-pass-only p k ms xs ys (next l f x) (next h g y) = pass-only p (suc k) ms xs ys x y
-pass-only p k ms xs ys (next l f x) (done h) = absurd (omega (arith, l, h))
-pass-only p k ms xs ys (done l) (merges i j m g y) = absurd (omega (arith, at-below ms k (m .machine) (m .numbered), l))
-pass-only p k ms xs ys (done l) (next h g y) = absurd (omega (arith, l, h))
-pass-only p k ms xs ys (done l) (done h) = refl
