@@ -15,7 +15,7 @@ use Rattle.state_set.specs.Member.{member}
 use Rattle.state_set.specs.Rows.{setAt, memberAt}
 use Rattle.merging.specs.Groups.{ungrouped}
 use Rattle.merging.specs.Numbers.{SmallSet, Gathered}
-use Rattle.merging.proofs.Remaining.{howMany, fewer}
+use Rattle.transition_system.proofs.Counting.{countBelow, fewer}
 use Rattle.merging.proofs.Taking.{Grows, grow-start, grow-end, grow-more}
 
 -- ---- the lowest of a set
@@ -33,7 +33,7 @@ lowest-of {f} {q} e = go (lowest-view f 256)
 
 -- how many places a set has
 pub sizeOf : StateSet → ℕ
-sizeOf a = howMany (member a) 256
+sizeOf a = countBelow (member a) 256
 
 -- one of them is taken out
 pub size-less : (a b : StateSet) (q : ℕ) → q < 256 → T (member a q) → ((i : ℕ) → T (member b i) → T (member a i && not (eqb i q))) → sizeOf b < sizeOf a

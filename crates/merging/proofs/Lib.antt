@@ -14,7 +14,6 @@ pub mod Grouping
 pub mod Later
 pub mod Pairing
 -- the numbers of groups, and the rows with them
-pub mod Remaining
 pub mod Taking
 pub mod Gathering
 pub mod Numbering

@@ -21,7 +21,7 @@ use Rattle.state_set.specs.Rows.{memberAt}
 use Rattle.rows.specs.Told.{entry}
 use Rattle.merging.specs.Groups.{ungrouped, grown, groupedFrom, grouped}
 use Rattle.merging.specs.Numbers.{SmallRow, SmallSet, Gathered, Numbered}
-use Rattle.merging.proofs.Remaining.{howMany, most, fewer}
+use Rattle.transition_system.proofs.Counting.{countBelow, fewer, most}
 use Rattle.merging.proofs.Taking.{grouped-more, ungrouped-more, grown-ungrouped}
 use Rattle.merging.proofs.Gathering.{lowest-of, sizeOf, size-less}
 
@@ -82,8 +82,8 @@ pub record Numbering (bars : List ℕ) (size : ℕ) (left : StateSet) (groups : 
   pub count : groups ≡ length made
   pub lefts : (q : ℕ) → member left q ≡ (ltb q size && ungrouped made q)
   pub each : (q : ℕ) → q < size → T (elem q (flatten made)) → entry number q ≡ placeIn made q
-  pub lasts : howMany (member left) size ≤ fuel
-  pub bound : groups + howMany (member left) size ≤ size
+  pub lasts : countBelow (member left) size ≤ fuel
+  pub bound : groups + countBelow (member left) size ≤ size
 
 module _ {bars : List ℕ} {size : ℕ} where
   pub number-start :
@@ -144,7 +144,7 @@ module _ {bars : List ℕ} {size : ℕ} where
       pub group-below : size ≤ 64 → groups < 64
       group-below b = omega (arith, w .bound, some-left)
         where
-          some-left : 0 < howMany (member left) size
+          some-left : 0 < countBelow (member left) size
           some-left = omega (arith, fewer (λ i. false) (member left) (λ i t. absurd t) size q q-below tt (lowest-of e .hit))
 
       pub first-below : size ≤ 64 → q < 64
@@ -172,7 +172,7 @@ module _ {bars : List ℕ} {size : ℕ} where
               group : List ℕ
               group = grown size (memberAt bars) size (w .made) (q ∷ [])
 
-              less : howMany (member rest) size < howMany (member left) size
+              less : countBelow (member rest) size < countBelow (member left) size
               less =
                   fewer (member rest) (member left) (λ i t. and-l (member left i) (not (eqb i q)) (part i t)) size q q-below
                   (not-T (member rest q) (λ t. rw (eq-eqb q q refl, and-false (member left q)) at (part q t))) (lowest-of e .hit)
@@ -203,7 +203,7 @@ module _ {bars : List ℕ} {size : ℕ} where
               small-at i l (inl u) = rw (told .1 i l ∙ cond-true (elem i group) x (entry number i) u ∙ y) (group-below b)
               small-at i l (inr u) = rw (told .1 i l ∙ cond-false (elem i group) x (entry number i) u) (w .small i l)
 
-              go : (k : ℕ) → grouped (memberAt bars) size ≡ groupedFrom k (memberAt bars) size (w .made) → howMany (member left) size ≤ k
+              go : (k : ℕ) → grouped (memberAt bars) size ≡ groupedFrom k (memberAt bars) size (w .made) → countBelow (member left) size ≤ k
                   → Numbering bars size rest (groups + 1) new
               go zero p h = absurd (omega (arith, less))
               go (suc k) p h =

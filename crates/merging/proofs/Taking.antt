@@ -5,7 +5,7 @@ use native.Mathlib.Omega.{arith}
 use mathlib.Core.Path.{_≡_, refl, ap, sym, _∙_}
 use mathlib.Core.Logic.{_⊎_, inl, inr}
 use mathlib.Core.Bool.{Bool, true, false, not, cond, _&&_, _||_, or-true, or-false, and-false}
-use mathlib.Core.List.{List, [], _∷_, _++_, flatten, append-assoc}
+use mathlib.Core.List.{List, [], _∷_, _++_, flatten, append-nil}
 use mathlib.Core.Option.{none, some}
 use borrow.Author.Tests.{lt-ltb, eq-eqb, ne-eqb}
 use lib.Dec.{T, eqb, eqb→eq, ltb, ltb→lt}
@@ -15,8 +15,9 @@ use Rattle.model.specs.Lists.{exists, elem}
 use Rattle.model.proofs.Laws.{and-l, or-e, Lowest, found, absent, lowest-view, lowest-is, none-lowest}
 use Rattle.model.proofs.ListLaws.{exists-append}
 use Rattle.rows.specs.Told.{entry}
+use Rattle.merging.proofs.Parting.{flatten-append}
 use Rattle.merging.specs.Groups.{ungrouped, barredBy, taken, grown}
-use Rattle.merging.proofs.Remaining.{howMany, most, fewer}
+use Rattle.transition_system.proofs.Counting.{countBelow, fewer, most}
 
 -- ---- one place more
 pub elem-more : (q x : ℕ) (g : List ℕ) → elem q (g ++ (x ∷ [])) ≡ (elem q g || eqb q x)
@@ -29,12 +30,7 @@ barred-more bars q x g = exists-append (λ a. bars a q) g (x ∷ []) ∙ rw (or-
 
 flatten-more : (gs : List (List ℕ)) (g : List ℕ) → flatten (gs ++ (g ∷ [])) ≡ flatten gs ++ g
 unfolding flatten
-flatten-more [] g = nothing-after g
-  where
-    nothing-after : (l : List ℕ) → l ++ [] ≡ l
-    nothing-after [] = refl
-    nothing-after (x ∷ l) = ap (λ (k : List ℕ). x ∷ k) (nothing-after l)
-flatten-more (h ∷ gs) g = ap (λ (l : List ℕ). h ++ l) (flatten-more gs g) ∙ sym (append-assoc h (flatten gs) g)
+flatten-more gs g = flatten-append gs (g ∷ []) ∙ ap (λ (l : List ℕ). flatten gs ++ l) (append-nil g)
 
 -- the places of one group more
 pub grouped-more : (gs : List (List ℕ)) (g : List ℕ) (q : ℕ) → elem q (flatten (gs ++ (g ∷ []))) ≡ (elem q (flatten gs) || elem q g)
@@ -113,7 +109,7 @@ pub record Grows (bars : ℕ → ℕ → Bool) (n : ℕ) (gs : List (List ℕ)) 
   pub rests : (q : ℕ) → rest q ≡ (ltb q n && ungrouped (gs ++ (places ∷ [])) q)
   pub frees : (q : ℕ) → free q ≡ (rest q && not (barredBy bars places q))
   pub numbers : (q : ℕ) → q < 64 → entry new q ≡ cond (elem q places) group (entry old q)
-  pub lasts : howMany rest n ≤ fuel
+  pub lasts : countBelow rest n ≤ fuel
 
 module _ {bars : ℕ → ℕ → Bool} {n : ℕ} {gs : List (List ℕ)} {first group : ℕ} {old : List ℕ} where
   pub grow-start :
@@ -167,7 +163,7 @@ module _ {bars : ℕ → ℕ → Bool} {n : ℕ} {gs : List (List ℕ)} {first g
           lowest-is (λ x. ungrouped (gs ++ (w .places ∷ [])) x && not (barredBy bars (w .places) x)) n q l (rw (← may q l) t)
           (λ j b. rw (← may j (omega arith)) (before j b))
 
-      fewer-left : (m : ℕ) → q < m → howMany rest2 m < howMany rest m
+      fewer-left : (m : ℕ) → q < m → countBelow rest2 m < countBelow rest m
       fewer-left m l =
           fewer rest2 rest (λ i x. and-l (rest i) (not (eqb i q)) (rw (r i) at x)) m q l
           (rw (r q, eq-eqb q q refl, and-false (rest q)) tt) (free-rest q t)
@@ -189,7 +185,7 @@ module _ {bars : ℕ → ℕ → Bool} {n : ℕ} {gs : List (List ℕ)} {first g
           free-at true true false d = refl
           free-at true false c d = refl
 
-          go : (k : ℕ) → grown n bars n gs (first ∷ []) ≡ grown k bars n gs (w .places) → howMany rest n ≤ k → Grows bars n gs first group old rest2 free2 (set new q group)
+          go : (k : ℕ) → grown n bars n gs (first ∷ []) ≡ grown k bars n gs (w .places) → countBelow rest n ≤ k → Grows bars n gs first group old rest2 free2 (set new q group)
           go zero e b = absurd (omega (arith, fewer-left n l))
           go (suc k) e b =
               record {

@@ -33,6 +33,16 @@ one-lt true b n t = absurd n
 one-lt false true n t = omega arith
 one-lt false false n t = absurd t
 
+one-most : (b : Bool) → one b ≤ 1
+unfolding one
+one-most true = omega arith
+one-most false = omega arith
+
+pub most : (f : ℕ → Bool) (n : ℕ) → countBelow f n ≤ n
+unfolding countBelow
+most f zero = omega arith
+most f (suc n) = omega (arith, one-most (f n), most f n)
+
 module _ (f g : ℕ → Bool) (h : (i : ℕ) → T (f i) → T (g i)) where
   no-more : (n : ℕ) → countBelow f n ≤ countBelow g n
   unfolding countBelow
