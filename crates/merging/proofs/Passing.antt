@@ -45,7 +45,6 @@ pub record Standing (v : Input) (b : Within (system v)) (ms : Decomposition) (m 
 pub record Given (v : Input) (sets pre later excitation : List ℕ) : Type 0 where
   pub post : List ℕ
   pub states : v .states ≤ 256
-  pub events : length (v .names) ≤ 64
   pub machines : length (v .machines) ≤ 16
   pub moves : (k e : ℕ) (x : Machine) → At (v .machines) k x → e < length (v .names) → moveAt pre post k e ≡ move (system v) x e
   pub sets-tell : (k q i : ℕ) (x : Machine) → At (v .machines) k x → q < 64 → memberAt sets (k * 64 + q) i ≡ (ltb i (v .states) && eqb (placeOf x i) q)

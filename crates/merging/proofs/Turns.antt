@@ -91,7 +91,6 @@ module _ {c : Counts} {x : Seen} {place0 sizes0 : List ℕ} where
         record {
           post = x .post;
           states = t .held .cover .states;
-          events = t .held .cover .events;
           machines = t .held .cover .machines;
           moves = t .held .cover .moves .move;
           sets-tell = t .sets .each;

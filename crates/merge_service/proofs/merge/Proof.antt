@@ -1,3 +1,4 @@
+-- `merge_service::merge` meets its contract: the answers are laws of `Handing` at what the calls have said.
 use mathlib.Core.Path.{sym}
 use denote.Ref.{now}
 use borrow.Author.Needs.{needs}

@@ -1,3 +1,4 @@
+-- `merge_service::merge_read` meets its contract: both answers are laws of `Handing` at what the calls have said.
 use borrow.Author.Needs.{needs}
 use Rattle.merge_service.proofs.Handing.{cover-refused, sheet-ready, handed-over}
 use Rattle.merge_service.proofs.merge_read.Statement.{statement}

@@ -1,3 +1,4 @@
+-- `merging::meet_machine` meets its contract: the unions begin with none.
 use mathlib.Core.Path.{refl}
 use borrow.Author.Needs.{needs}
 use Rattle.merging.proofs.Uniting.{no-unions}

@@ -1,3 +1,4 @@
+-- `merging::merge_machine` meets its contract: each part of it is what a call has said.
 use native.Mathlib.Omega.{arith}
 use mathlib.Core.Path.{refl}
 use borrow.Author.Needs.{needs}

@@ -1,3 +1,4 @@
+-- `merging::merge_machines` meets its contract: the machines passed are merged as the model's pass has them. The laws are in `Turns`.
 use Prim.Native.Nat.{_-_}
 use borrow.Author.Needs.{needs}
 use Rattle.merging.specs.Bars.{seen}

@@ -1,3 +1,4 @@
+-- `merging::merge_places` meets its contract: the rows that it makes begin empty, or full.
 use native.Mathlib.Omega.{arith}
 use borrow.Author.Needs.{needs}
 use Rattle.closure.proofs.Filling.{no-machines}

@@ -1,3 +1,4 @@
+-- `merging::merge_with` meets its contract: refused by 11 or 12, or by what the pass says of the rows. The laws are in `Judging`.
 use borrow.Author.Needs.{needs}
 use Rattle.merging.proofs.Judging.{sheet-rows, merge-refused, merge-passed}
 use Rattle.merging.proofs.merge_with.Statement.{statement}

@@ -1,3 +1,4 @@
+-- `merging::new_numbers` meets its contract: the bars begin with none, and the numbers go by them.
 use Prim.Native.Nat.{ℕ}
 use lib.ListN.{length-replicate}
 use borrow.Author.Needs.{needs}

@@ -1,3 +1,4 @@
+-- `merging::bars::bar` meets its contract. The law is in `Pairing`.
 use borrow.Author.Needs.{needs}
 use Rattle.merging.proofs.Pairing.{paired}
 use Rattle.merging.proofs.bars.bar.Statement.{statement}

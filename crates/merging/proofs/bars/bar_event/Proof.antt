@@ -1,3 +1,4 @@
+-- `merging::bars::bar_event` meets its contract: the event is not on the machine, has no open state, or bars. The laws are in `Pairing`.
 use native.Mathlib.Omega.{arith}
 use mathlib.Core.Path.{refl}
 use borrow.Author.Needs.{needs}

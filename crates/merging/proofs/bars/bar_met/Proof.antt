@@ -1,3 +1,4 @@
+-- `merging::bars::bar_met` meets its contract: the places passed are barred if they have one of the states. The laws are in `Pairing`.
 use Prim.Native.Nat.{_-_}
 use mathlib.Core.Logic.{⊎-elim}
 use borrow.Author.Needs.{needs}

@@ -1,3 +1,4 @@
+-- `merging::bars::bar_places` meets its contract: the events passed have barred. The laws are in `Pairing`.
 use Prim.Native.Nat.{_-_}
 use native.Mathlib.Omega.{arith}
 use borrow.Author.Needs.{needs}

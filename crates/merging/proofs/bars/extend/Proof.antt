@@ -1,3 +1,4 @@
+-- `merging::bars::extend` meets its contract: the events passed have their sets. The laws are in `Later`.
 use Prim.Native.Nat.{_-_}
 use native.Mathlib.Omega.{arith}
 use borrow.Author.Needs.{needs}

@@ -1,3 +1,4 @@
+-- `merging::bars::have_in_common` meets its contract. The laws are in `Pairing`.
 use borrow.Author.Needs.{needs}
 use Rattle.merging.proofs.Pairing.{none-common, some-common}
 use Rattle.merging.proofs.bars.have_in_common.Statement.{statement}

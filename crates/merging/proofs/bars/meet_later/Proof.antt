@@ -1,3 +1,4 @@
+-- `merging::bars::meet_later` meets its contract: from the last machine down, one further at each turn. The laws are in `Later`.
 use native.Mathlib.Omega.{arith}
 use borrow.Author.Needs.{needs}
 use Rattle.merging.proofs.Later.{Extended, later-start, later-more, later-end}

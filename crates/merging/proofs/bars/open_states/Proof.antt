@@ -1,3 +1,4 @@
+-- `merging::bars::open_states` meets its contract. The law is in `Pairing`.
 use borrow.Author.Needs.{needs}
 use Rattle.merging.proofs.Pairing.{open-is}
 use Rattle.merging.proofs.bars.open_states.Statement.{statement}
