@@ -8,7 +8,7 @@ use Rattle.model.specs.Lists.{exists, every, first, index, count, satisfying, i
 use Rattle.model.specs.TransitionSystem.{leads, declared, transitionRefusal, transitionsRefusal, unusedEvent, exits, withTarget, grown, reached, unreachableState, systemRefusal}
 use Rattle.model.specs.Product.{moveFrom, both, oneMore, inAlphabet, effective, fire, fireAll, productStep, blocker, runFrom}
 use Rattle.model.specs.Machine.{placeIn, places, crosses, move, duplicateState, unplacedState, transitionsOf, enters, allOrNone, uniform, nonuniformEvent, ineffectiveEvent, inPre, ready, common, excited, openState, openEvent, closureRefusal, machineRefusal, machinesRefusal, coverRefusal}
-use Rattle.model.specs.Bytes.{bytes, isDigit, isLetter, isNameByte, isFigure, isName, digits, numeral, numeralUpTo}
+use Rattle.model.specs.Bytes.{bytes, isDigit, isLetter, isCapital, lower, isNameByte, isFigure, isName, digits, numeral, numeralUpTo}
 use Rattle.model.specs.Form.{isMachineLine, isStepLine, startGiven, statesLine, spacedName, eventsLine, stepLine, spacedFigure, place, machineLine, lineAfter}
 use Rattle.model.specs.Text.{eventNumber, valueOf, distinct, inLimit, isDeclared, ended, lineThen, linesFrom, read, lineTwo, nameAt}
 use Rattle.model.specs.Sheet.{addMove, movesBelow, sheetLine, sheetLines, moveBytes, writtenMove, writtenLine, writtenCount, writtenSheet, boardOf, sheet, countForm, moveForm, headForm, lineForm}
@@ -35,7 +35,7 @@ pub answers-on-y : AnswersOnY (bytes (Y ++ Y0 ++ Y1))
 unfolding exists every first index count satisfying isSome isEmpty numbers elem lowest orElse flatMap flatten leads declared transitionRefusal transitionsRefusal
     unusedEvent exits withTarget grown reached unreachableState systemRefusal moveFrom both oneMore inAlphabet effective fire fireAll productStep blocker runFrom placeIn
     places crosses move duplicateState unplacedState transitionsOf enters allOrNone uniform nonuniformEvent ineffectiveEvent inPre ready common excited openState
-    openEvent closureRefusal machineRefusal machinesRefusal coverRefusal isDigit isLetter isNameByte isFigure isName digits numeral numeralUpTo isMachineLine
+    openEvent closureRefusal machineRefusal machinesRefusal coverRefusal isDigit isLetter isCapital lower isNameByte isFigure isName digits numeral numeralUpTo isMachineLine
     isStepLine startGiven statesLine spacedName eventsLine stepLine spacedFigure place machineLine lineAfter eventNumber valueOf distinct inLimit isDeclared ended lineThen
     linesFrom read lineTwo nameAt addMove movesBelow sheetLine sheetLines moveBytes writtenMove writtenLine writtenCount writtenSheet boardOf sheet printedBy fitting spaced printedCheck nameLine
     printedName ranWord placesWord ranLine printedRun asFarAs7 asFarAs10 asFarAs12 name runEvents printed writtenAnswer writtenRefusal serviceSaid isNumeral
@@ -58,7 +58,7 @@ pub record AnswersMerged (r y : List ℕ) : Type 0 where
 pub answers-merged : AnswersMerged (bytes ring) (bytes (Y ++ Y0 ++ Y1))
 unfolding exists every first index count satisfying isSome isEmpty numbers elem lowest orElse flatMap flatten leads declared transitionRefusal transitionsRefusal
     unusedEvent exits withTarget grown reached unreachableState systemRefusal inAlphabet effective placeIn places crosses move duplicateState unplacedState transitionsOf enters allOrNone uniform nonuniformEvent
-    ineffectiveEvent inPre ready common excited openState openEvent closureRefusal machineRefusal machinesRefusal coverRefusal isDigit isLetter isNameByte isFigure isName digits numeral
+    ineffectiveEvent inPre ready common excited openState openEvent closureRefusal machineRefusal machinesRefusal coverRefusal isDigit isLetter isCapital lower isNameByte isFigure isName digits numeral
     numeralUpTo isMachineLine isStepLine startGiven statesLine spacedName eventsLine stepLine spacedFigure place machineLine lineAfter eventNumber valueOf distinct inLimit isDeclared ended
     lineThen linesFrom read addMove movesBelow sheetLine sheetLines moveBytes writtenMove writtenLine writtenCount writtenSheet boardOf sheet removed mergePlaces mergeMachine mergeIn placeCount
     mergeable partner lowerPlace mergeWith mergeLower mergeFirst mergeTimes mergedBelow merged mergedInput printedBy fitting printedMerge asFarAs7 asFarAs10 asFarAs12 printed writtenAnswer

@@ -11,7 +11,7 @@ use Rattle.model.specs.Refusal.{Refusal, refuse, refused, passed}
 use Rattle.model.specs.TransitionSystem.{leads, transitionRefusal, transitionsRefusal, unusedEvent, exits, withTarget, grown, reached, unreachableState, systemRefusal}
 use Rattle.model.specs.Product.{inAlphabet, effective}
 use Rattle.model.specs.Machine.{Machine, Decomposition, placeIn, crosses, move, duplicateState, unplacedState, transitionsOf, enters, allOrNone, uniform, nonuniformEvent, ineffectiveEvent, inPre, ready, common, excited, openState, openEvent, closureRefusal, machineRefusal, machinesRefusal, coverRefusal}
-use Rattle.model.specs.Bytes.{bytes, isDigit, isLetter, isNameByte, isFigure, isName, digits}
+use Rattle.model.specs.Bytes.{bytes, isDigit, isLetter, isCapital, lower, isNameByte, isFigure, isName, digits}
 use Rattle.model.specs.Form.{isMachineLine, isStepLine, startGiven, statesLine, spacedName, eventsLine, stepLine, spacedFigure, place, machineLine, lineAfter}
 use Rattle.model.specs.Text.{Input, system, eventNumber, valueOf, distinct, inLimit, isDeclared, ended, lineThen, linesFrom, read}
 use Rattle.model.specs.Sheet.{addMove, movesBelow, sheetLine, sheetLines, moveBytes, writtenMove, writtenLine, writtenCount, writtenSheet, boardOf, sheet}
@@ -103,7 +103,7 @@ pub record MergedSheets : Type 0 where
 pub merged-sheets : MergedSheets
 unfolding MergesTo AsCheck MergeRefuses CanMerge exists every first index count satisfying isSome isEmpty elem lowest orElse flatten flatMap leads transitionRefusal transitionsRefusal unusedEvent
     exits withTarget grown reached unreachableState systemRefusal placeIn crosses move inAlphabet effective duplicateState unplacedState transitionsOf enters allOrNone uniform nonuniformEvent
-    ineffectiveEvent inPre ready common excited openState openEvent closureRefusal machineRefusal machinesRefusal coverRefusal isDigit isLetter isNameByte isFigure isName digits isMachineLine
+    ineffectiveEvent inPre ready common excited openState openEvent closureRefusal machineRefusal machinesRefusal coverRefusal isDigit isLetter isCapital lower isNameByte isFigure isName digits isMachineLine
     isStepLine startGiven statesLine spacedName eventsLine stepLine spacedFigure place machineLine lineAfter eventNumber valueOf distinct inLimit isDeclared ended lineThen linesFrom read asFarAs7
     asFarAs10 asFarAs12 lend addMove movesBelow sheetLine sheetLines moveBytes writtenMove writtenLine writtenCount writtenSheet boardOf sheet check removed mergePlaces mergeMachine mergeIn
     placeCount mergeable partner lowerPlace mergeWith mergeLower mergeFirst mergeTimes mergedBelow merged mergedInput merge

@@ -26,6 +26,7 @@ use Rattle.model.proofs.Lending.{lends}
 use Rattle.model.proofs.GoodLines.{sheet-lines}
 use Rattle.model.proofs.Loading.{Loaded, loaded, bad, sheet-loaded, says-loaded, bad-loaded}
 use Rattle.model.proofs.SheetMoves.{on-sheet, sheet-on}
+use Rattle.model.proofs.OneEvent.{one-name}
 use Rattle.model.proofs.NameLists.{unbroken-name, split-word, split-last, EachUnbroken, split-all, Split, split-names}
 
 -- ---- reading
@@ -56,7 +57,7 @@ rewriting s out =
 -- ---- row 14
 
 pub one-unbroken : (e f : Name) → OneEvent e f → IsName f → Unbroken e
-one-unbroken e f o n = subst Unbroken (sym o) (unbroken-name f n)
+one-unbroken e f o n = unbroken-name e (one-name e f o n)
 
 -- the names on a good sheet
 pub sheet-unbroken : (s : List ℕ) (b : Board) → SaysSheet s b → (e : Name) → OnSheet b e → Unbroken e

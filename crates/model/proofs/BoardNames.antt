@@ -8,7 +8,7 @@ use mathlib.Core.List.{List, [], _∷_, _++_, flatMap, append-assoc}
 use lib.Dec.{T}
 use lib.ListN.{length, drop}
 use Rattle.model.specs.Lists.{every, index, isEmpty}
-use Rattle.model.specs.Bytes.{bytes, isNameByte, isLetter, isDigit, Name, IsName, OneEvent}
+use Rattle.model.specs.Bytes.{bytes, isNameByte, isLetter, isCapital, isDigit, Name, IsName}
 use Rattle.model.specs.Reading.{fail, got, litBytes, name}
 use Rattle.model.specs.Sheet.{Board, nameForm}
 use Rattle.model.specs.Product.{effective}
@@ -17,14 +17,12 @@ use Rattle.model.specs.BoardTable.{OnSheet, SaysSheet, ended}
 use Rattle.model.proofs.Laws.{dec, T-false}
 use Rattle.model.proofs.Positions.{mem-at}
 use Rattle.model.proofs.Words.{past, done, by, lit-complete, lit-sound, name-complete, name-sound}
+use Rattle.model.proofs.OneEvent.{one-name}
 use Rattle.model.proofs.NameLists.{unbroken-name, split-word, Split}
 use Rattle.model.proofs.SheetMoves.{on-sheet}
 use Rattle.model.proofs.BoardCalls.{split-list}
 
 -- the names on a good sheet are names
-one-name : (e f : Name) → OneEvent e f → IsName f → IsName e
-one-name e f o n = subst IsName (sym o) n
-
 sheet-name : (s : List ℕ) (b : Board) → SaysSheet s b → (e : Name) → OnSheet b e → IsName e
 sheet-name s b w e (l, m, (x, i, o)) = let k = mem-at b l m in one-name e (x .event) o (w .1 .good (k .0) l (k .1) .moves x i .name)
 
@@ -51,7 +49,7 @@ module _ (t : List ℕ) (at : ℕ) where
       (subst (λ (i : ℕ). ahead ≡ (w ∷ splitNames [] (drop i t) .0, splitNames [] (drop i t) .1)) c y)
 
   name-found : (w : Name) (rest : List ℕ) → IsName w → drop at t ≡ w ++ (10 ∷ rest) → nameForm t at ≡ got w (at + length w + 1)
-  unfolding nameForm isNameByte isLetter isDigit
+  unfolding nameForm isNameByte isLetter isCapital isDigit
   name-found w rest n e =
       let m = at + length w in
       let q : drop m t ≡ 10 ∷ rest = past t at w (10 ∷ rest) e in

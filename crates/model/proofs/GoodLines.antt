@@ -22,7 +22,8 @@ use Rattle.model.proofs.Words.{past}
 use Rattle.model.proofs.Sheets.{at-snoc}
 use Rattle.model.proofs.SheetForms.{MoveFormed, LineFormed}
 use Rattle.model.proofs.LineEnds.{ends, figure-ends, name-ends, none-in-each}
-use Rattle.model.proofs.SheetNames.{Apart, distinct-apart, apart-distinct, few-of, of-few}
+use Rattle.model.proofs.OneEvent.{Apart, distinct-apart, apart-distinct}
+use Rattle.model.proofs.SheetNames.{few-of, of-few}
 
 -- ---- a good line
 

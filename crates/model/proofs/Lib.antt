@@ -35,6 +35,7 @@ pub mod Sheets
 pub mod SheetForms
 pub mod Chains
 pub mod LineEnds
+pub mod OneEvent
 pub mod Values
 pub mod Texts
 pub mod Whole
@@ -43,7 +44,6 @@ pub mod Faith
 pub mod Kept
 pub mod Differs
 -- the sheets that boards read: names and good lines, row 15; moves; lists of names; the two calls; the sheet of a text, and the board that runs it
-pub mod OneEvent
 pub mod SheetNames
 pub mod GoodLines
 pub mod Loading

@@ -17,7 +17,8 @@ pub unbroken-name : (w : Name) → IsName w → Unbroken w
 unbroken-name w n m = go (n .each 10 m)
   where
     go : Letter 10 ⊎ (Digit 10 ⊎ (_≡_ {A = ℕ} 10 45)) → ⊥
-    go (inl l) = omega (arith, l .0)
+    go (inl (inl l)) = omega (arith, l .0)
+    go (inl (inr l)) = omega (arith, l .0)
     go (inr (inl d)) = omega (arith, d .0)
     go (inr (inr q)) = omega (arith, q)
 

@@ -27,9 +27,8 @@ use Rattle.model.proofs.Moves.{MoveView, moves, stays, move-view, moveO
 use Rattle.model.proofs.SheetMoves.{MoveOnView, moved, stayed, move-on}
 use Rattle.model.proofs.Limits.{within-of}
 use Rattle.model.proofs.Sheets.{entry, in-moves, moves-in, moves-iff, rising, at-lines, lines-length, place-low, move-low, board-length, sheet-fits}
-use Rattle.model.proofs.OneEvent.{one-refl, one-sym, one-trans}
+use Rattle.model.proofs.OneEvent.{one-refl, one-sym, one-trans, Apart}
 use Rattle.model.proofs.Arcs.{in-place}
-use Rattle.model.proofs.SheetNames.{Apart}
 
 -- ---- the moves of a line are those of its machine
 
@@ -74,7 +73,7 @@ module _ (p : TransitionSystem) (names : List Name) (size : length names ≡ p .
 
 module _ (v : Input) (w : Limits v) (g : (m : Machine) → List·Memᴰ m (v .machines) → Good (system v) m) where
   pub names-once : Apart (v .names)
-  names-once i j e f a b o = w .distinct i j f (subst (At (v .names) i) o a) b
+  names-once = w .distinct
 
   -- a line of the sheet is that of a machine
   pub record LineAt (k : ℕ) (l : NamedLine) : Type 0 where

@@ -18,47 +18,20 @@ use Rattle.model.proofs.Laws.{dec, T-true, T-false, not-T, contra, and-
 use Rattle.model.proofs.ListLaws.{mem-split}
 use Rattle.model.proofs.Positions.{at-mem, mem-at}
 use Rattle.model.proofs.Sheets.{at-snoc}
-use Rattle.model.proofs.OneEvent.{one-refl, one-sym, one-trans, one-among, among-one}
+use Rattle.model.proofs.OneEvent.{one-refl, one-sym, one-trans, one-among, among-one, Apart}
 
 -- ---- the moves on a sheet, machine by machine
 
 abbrev pub movesOn : Board → List NamedMove
 movesOn = flatMap (λ (l : NamedLine). l .moves)
 
--- ---- names that are apart: no two are one event
-
-abbrev pub Apart : List Name → Type 0
-Apart es = (i j : ℕ) (e f : Name) → At es i e → At es j f → OneEvent e f → i ≡ j
-
-pub distinct-apart : (es : List Name) → T (distinct es) → Apart es
-unfolding distinct
-distinct-apart [] t i j e f a b o = absurd (Option·none-ne-some e a)
-distinct-apart (x ∷ es) t zero zero e f a b o = refl
-distinct-apart (x ∷ es) t zero (suc j) e f a b o =
-    absurd (contra (exists (sameName x) es) (and-l (not (exists (sameName x) es)) (distinct es) t)
-    (among-one x es f (at-mem es j f b) (subst (λ (y : Name). OneEvent y f) (sym (Option·some-injective x e a)) o)))
-distinct-apart (x ∷ es) t (suc i) zero e f a b o =
-    absurd (contra (exists (sameName x) es) (and-l (not (exists (sameName x) es)) (distinct es) t)
-    (among-one x es e (at-mem es i e a) (one-sym e x (subst (λ (y : Name). OneEvent e y) (sym (Option·some-injective x f b)) o))))
-distinct-apart (x ∷ es) t (suc i) (suc j) e f a b o =
-    ap suc (distinct-apart es (and-r (not (exists (sameName x) es)) (distinct es) t) i j e f a b o)
-
-pub apart-distinct : (es : List Name) → Apart es → T (distinct es)
-unfolding distinct
-apart-distinct [] h = tt
-apart-distinct (x ∷ es) h =
-    and-i (not (exists (sameName x) es)) (distinct es)
-    (not-T (exists (sameName x) es) (λ t. no (one-among x es t)))
-    (apart-distinct es (λ i j e f a b o. let q : suc i ≡ suc j = h (suc i) (suc j) e f a b o in omega arith))
-  where
-    no : (f : Name) × List·Memᴰ f es × OneEvent x f → ⊥
-    no w = let k = mem-at es (w .0) (w .1) in let q : 0 ≡ suc (k .0) = h 0 (suc (k .0)) x (w .0) refl (k .1) (w .2) in omega arith
+-- ---- names of which no two are one event
 
 pub apart-snoc : (es : List Name) (e : Name) → Apart es → T (not (exists (sameName e) es)) → Apart (es ++ (e ∷ []))
 apart-snoc es e h n i j x y a b o = go (at-snoc es e i x a) (at-snoc es e j y b)
   where
     new : (k : ℕ) (z : Name) → At es k z → OneEvent e z → ⊥
-    new k z c p = contra (exists (sameName e) es) n (among-one e es z (at-mem es k z c) p)
+    new k z c p = contra (exists (sameName e) es) n (among-one e es (z, at-mem es k z c, p))
 
     go : At es i x ⊎ ((i ≡ length es) × (x ≡ e)) → At es j y ⊎ ((j ≡ length es) × (y ≡ e)) → i ≡ j
     go (inl c) (inl d) = h i j x y c d o

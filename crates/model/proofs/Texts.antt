@@ -9,17 +9,20 @@ use mathlib.Core.List.{List, [], _∷_, _++_, map, flatMap, append-nil}
 use mathlib.Core.Option.{Option, none, some, Option·none-ne-some, Option·some-injective}
 use lib.Dec.{T}
 use lib.ListN.{length, getD, length-append}
-use Rattle.model.specs.Lists.{At, exists, count}
+use Rattle.model.specs.Lists.{At, Pairwise, exists, count}
 use Rattle.model.specs.TransitionSystem.{Transition}
 use Rattle.model.specs.Machine.{Machine}
 use Rattle.model.specs.Bytes.{Name}
-use Rattle.model.specs.Form.{Line, states, step, machine, writtenStart, startOf, written, isMachineLine}
+use Rattle.model.specs.Form.{Line, states, events, step, machine, writtenStart, startOf, written, Respelt, isMachineLine}
 use Rattle.model.specs.Text.{Input, valueOf, shortest, linesWith, write, Limits}
 use Rattle.model.specs.Table.{Begins, Fine, Reads}
+use Rattle.model.specs.Demands.{Spells}
 use Rattle.model.proofs.Laws.{dec}
+use Rattle.model.proofs.Positions.{at-mem, at-getD}
 use Rattle.model.proofs.Counting.{count-some, count-none}
+use Rattle.model.proofs.OneEvent.{one-sym, one-length}
 use Rattle.model.proofs.Chains.{Each, Proper, each-map, each-all, all-each, begun, begins}
-use Rattle.model.proofs.Values.{Both, Named, lines, shape, machines-counted, Plain, plain, both, numbered, named, input, value-of-lines, lines-with, lines-again, limits, plain-limits, value-again}
+use Rattle.model.proofs.Values.{Both, Named, stepLine, machineLine, lines, shape, machines-counted, Plain, plain, both, numbered, named, input, value-of-lines, lines-with, lines-again, limits, plain-limits, value-again}
 
 -- complete lines, with a machine
 pub record Complete (ls : List Line) : Type 0 where
@@ -83,12 +86,36 @@ shortest-text : (n : ℕ) (o : Option ℕ) (es : List Name) (ts : List Named) (m
 unfolding flatMap
 shortest-text n o es ts ms = simp length-append (omega (arith, shortest-bytes n o))
 
--- The lines of a text that gives a value are the value's, line 1 in one of its forms.
+-- a line is as long in any spelling, and so are lines
+respelt-line : (l k : Line) → Respelt l k → length (written l) ≡ length (written k)
+unfolding written
+respelt-line (states n o) k q = ap (λ (x : Line). length (written x)) (sym q)
+respelt-line (events es) k q = ap (λ (x : Line). length (written x)) (sym q)
+respelt-line (step a e b) k (f, o, q) = rw q (simp length-append (omega (arith, one-length e f o)))
+respelt-line (machine ps) k q = ap (λ (x : Line). length (written x)) (sym q)
+
+pub respelt-bytes : (ls ks : List Line) → Pairwise Respelt ls ks → length (flatMap written ls) ≡ length (flatMap written ks)
+unfolding flatMap
+respelt-bytes [] [] p = refl
+respelt-bytes [] (k ∷ ks) p = absurd p
+respelt-bytes (l ∷ ls) [] p = absurd p
+respelt-bytes (l ∷ ls) (k ∷ ks) p = simp length-append (omega (arith, respelt-line l k (p .0), respelt-bytes ls ks (p .1)))
+
+-- lines 1 and 2 have no other spelling
+first-two : (n : ℕ) (o : Option ℕ) (es : List Name) (ks ls : List Line) → Pairwise Respelt (states n o ∷ events es ∷ ks) ls
+    → (rest : List Line) × (ls ≡ states n o ∷ events es ∷ rest)
+first-two n o es ks [] p = absurd p
+first-two n o es ks (l ∷ []) p = absurd (p .1)
+first-two n o es ks (l ∷ k ∷ ls) p = (ls, rw (p .0, p .1 .0) refl)
+
+-- The lines of a text that gives a value are the value's, line 1 in one of its forms and the names of steps in some spelling.
 pub record ValueLines (s : List ℕ) (v : Input) (ls : List Line) : Type 0 where
   pub start : Option ℕ
   pub initial : startOf start ≡ v .initial
-  pub lines : ls ≡ linesWith start v
-  pub bytes : s ≡ flatMap written (linesWith start v)
+  pub lines : Pairwise Respelt (linesWith start v) ls
+  pub rest : List Line
+  pub first : ls ≡ states (v .states) start ∷ events (v .names) ∷ rest
+  pub bytes : s ≡ flatMap written ls
   pub limits : Limits v
 
 module _ (s : List ℕ) (n : ℕ) (o : Option ℕ) (es : List Name) (ts : List Named) (ms : List Machine) (c : Complete (lines n o es ts ms))
@@ -96,12 +123,15 @@ module _ (s : List ℕ) (n : ℕ) (o : Option ℕ) (es : List Name) (ts : List N
   p : Plain n o es ts ms
   p = plain n o es ts ms (c .good) (c .fine)
 
-  own : (q : Option ℕ) → lines n q es ts ms ≡ linesWith q (input n (startOf o) es (map (numbered es) ts) ms)
-  own q = sym (lines-again n o es ts ms p q)
+  own : (q : Option ℕ) → Pairwise Respelt (linesWith q (input n (startOf o) es (map (numbered es) ts) ms)) (lines n q es ts ms)
+  own = lines-again n o es ts ms p
 
   fits : length (write (input n (startOf o) es (map (numbered es) ts) ms)) ≤ 32768
   unfolding write
-  fits = rw (← own (shortest (startOf o))) (omega (arith, short, ap length bytes, shortest-text n o es ts ms))
+  fits =
+      let q = shortest (startOf o) in
+      omega (arith, short, ap length bytes, shortest-text n o es ts ms,
+      respelt-bytes (linesWith q (input n (startOf o) es (map (numbered es) ts) ms)) (lines n q es ts ms) (own q))
 
   some-machine : 1 ≤ length ms
   some-machine = subst (λ (k : ℕ). 1 ≤ k) (machines-counted n o es ts ms ms) (count-some isMachineLine (lines n o es ts ms) (c .machine))
@@ -112,7 +142,9 @@ module _ (s : List ℕ) (n : ℕ) (o : Option ℕ) (es : List Name) (ts : List N
         start = o;
         initial = refl;
         lines = own o;
-        bytes = bytes ∙ ap (flatMap written) (own o);
+        rest = map stepLine ts ++ map machineLine ms;
+        first = refl;
+        bytes = bytes;
         limits = limits n o es ts ms p fits some-machine;
       }
 
@@ -136,13 +168,24 @@ step-line f [] rest k t a = absurd (Option·none-ne-some t a)
 step-line f (u ∷ ts) rest zero t a = ap (λ (x : Transition). some (f x)) (Option·some-injective u t a)
 step-line f (u ∷ ts) rest (suc k) t a = step-line f ts rest k t a
 
+respelt-at : (ls ks : List Line) → Pairwise Respelt ls ks → (k : ℕ) (l : Line) → At ls k l → (x : Line) × Respelt l x × At ks k x
+respelt-at [] ks p k l a = absurd (Option·none-ne-some l a)
+respelt-at (y ∷ ls) [] p k l a = absurd p
+respelt-at (y ∷ ls) (x ∷ ks) p zero l a = (x, subst (λ (z : Line). Respelt z x) (Option·some-injective y l a) (p .0), refl)
+respelt-at (y ∷ ls) (x ∷ ks) p (suc k) l a = respelt-at ls ks (p .1) k l a
+
 pub line-of : (s : List ℕ) (v : Input) (r : Reads s v) (k : ℕ) (t : Transition) → At (v .transitions) k t
-    → At (r .lines) (k + 2) (step (t .source) (getD (v .names) (t .event) []) (t .target))
+    → (w : Name) × Spells (v .names) w (t .event) × At (r .lines) (k + 2) (step (t .source) w (t .target))
 unfolding linesWith
 line-of s v r k t a =
     let l = value-lines s v r in
-    rw (l .lines, add-two k)
-    (step-line (λ (x : Transition). step (x .source) (getD (v .names) (x .event) []) (x .target)) (v .transitions) (map (λ (m : Machine). machine (m .places)) (v .machines)) k t a)
+    let e = getD (v .names) (t .event) [] in
+    let b : At (linesWith (l .start) v) (k + 2) (step (t .source) e (t .target)) =
+    rw (add-two k)
+    (step-line (λ (x : Transition). step (x .source) (getD (v .names) (x .event) []) (x .target)) (v .transitions) (map (λ (m : Machine). machine (m .places)) (v .machines)) k t a) in
+    let (x, (w, o, q), c) = respelt-at (linesWith (l .start) v) (r .lines) (l .lines) (k + 2) (step (t .source) e (t .target)) b in
+    let low = l .limits .transitions t (at-mem (v .transitions) k t a) .event in
+    (w, (e, at-getD (v .names) (t .event) [] low, one-sym e w o), subst (At (r .lines) (k + 2)) q c)
 
 -- ---- every value within the limits is read from the text that writes it
 

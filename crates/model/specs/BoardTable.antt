@@ -9,7 +9,7 @@ use lib.ListN.{length, take, getD, replicate}
 use Rattle.model.specs.Lists.{At, count}
 use Rattle.model.specs.Refusal.{Refusal, refuse, refused, passed}
 use Rattle.model.specs.Region.{ProductWalk, Blocks}
-use Rattle.model.specs.Bytes.{bytes, Name, IsName, OneEvent}
+use Rattle.model.specs.Bytes.{bytes, Name, IsName, OneEvent, Among}
 use Rattle.model.specs.Sheet.{NamedMove, NamedLine, Board, writtenLine, writtenCount, writtenSheet}
 use Rattle.model.specs.Services.{whole, blocked, refusedBy, RunAnswer}
 use Rattle.model.specs.Board.{readSheet, boardRun}
@@ -33,7 +33,7 @@ pub record GoodMove (n : ℕ) (x : NamedMove) : Type 0 where
 pub record FewNames (b : Board) : Type 0 where
   pub names : List Name
   pub most : length names ≤ 64
-  pub all : (e : Name) → OnSheet b e → (n : Name) × List·Memᴰ n names × OneEvent e n
+  pub all : (e : Name) → OnSheet b e → Among e names
 
 -- the line of the machine after these
 pub record GoodLine (before : Board) (l : NamedLine) : Type 0 where

@@ -17,6 +17,7 @@ pub mod BoardTable
 pub mod Printed
 pub mod Demands
 pub mod Merged
+pub mod Spelling
 pub mod Examples
 pub mod Starts
 pub mod Cases

@@ -9,13 +9,13 @@ use mathlib.Core.List.{List, [], _∷_, flatMap, flatten, List·Memᴰ}
 use mathlib.Core.Option.{Option, some, orElse}
 use lib.Dec.{ltb}
 use lib.ListN.{replicate}
-use Rattle.model.specs.Lists.{exists, every, first, index, count, satisfying, isSome, isEmpty, elem, lowest}
+use Rattle.model.specs.Lists.{Pairwise, exists, every, first, index, count, satisfying, isSome, isEmpty, elem, lowest}
 use Rattle.model.specs.Refusal.{Refusal, refuse, refused, passed}
 use Rattle.model.specs.TransitionSystem.{leads, systemStep, andThen, runs, systemRuns, declared, transitionRefusal, transitionsRefusal, unusedEvent, exits, withTarget, grown, reached, unreachableState, systemRefusal}
 use Rattle.model.specs.Product.{moveFrom, both, oneMore, inAlphabet, effective, fire, fireAll, productStep, blocker, runFrom}
 use Rattle.model.specs.Machine.{Machine, Decomposition, placeIn, places, crosses, move, productRuns, duplicateState, unplacedState, transitionsOf, enters, allOrNone, uniform, nonuniformEvent, ineffectiveEvent, inPre, ready, common, excited, openState, openEvent, closureRefusal, machineRefusal, machinesRefusal, coverRefusal, select, suffices, tryDrop, thinBelow, keptMarks}
-use Rattle.model.specs.Bytes.{bytes, isDigit, isLetter, isNameByte, isFigure, isName, digits}
-use Rattle.model.specs.Form.{startOf, isMachineLine, isStepLine, startGiven, statesLine, spacedName, eventsLine, stepLine, spacedFigure, place, machineLine, lineAfter}
+use Rattle.model.specs.Bytes.{bytes, isDigit, isLetter, isCapital, lower, isNameByte, isFigure, isName, digits}
+use Rattle.model.specs.Form.{startOf, Respelt, isMachineLine, isStepLine, startGiven, statesLine, spacedName, eventsLine, stepLine, spacedFigure, place, machineLine, lineAfter}
 use Rattle.model.specs.Text.{Input, system, eventNumber, valueOf, distinct, inLimit, isDeclared, ended, lineThen, linesFrom, read, linesWith, write, Limits, lineTwo, nameAt}
 use Rattle.model.specs.Sheet.{addMove, movesBelow, sheetLine, sheetLines, moveBytes, writtenMove, writtenLine, writtenCount, writtenSheet, boardOf, sheet}
 use Rattle.model.specs.Services.{asFarAs7, asFarAs10, asFarAs12, lend, check, name, blocked, outcomeOf, padded, ranAnswer, runEvents, run, Kept, keptOf, thin}
@@ -94,7 +94,7 @@ pub record Starts : Type 0 where
 pub record StartsAway (s : List ℕ) (v : Input) : Type 0 where
   pub initial : v .initial ≡ 3
   pub passes : Passes 12 s v
-  pub own-lines : (r : Reads s v) → (o : Option ℕ) × (startOf o ≡ 3) × (r .lines ≡ linesWith o v)
+  pub own-lines : (r : Reads s v) → (o : Option ℕ) × (startOf o ≡ 3) × Pairwise Respelt (linesWith o v) (r .lines)
   pub limits : Limits v
   pub writes : Reads (write v) v
   pub all-states : IsRegion (system v) (λ u. ltb u 4)
@@ -123,7 +123,7 @@ unfolding Writes Refuses Runs Keeps exists every first index count satisfying is
     andThen runs systemRuns declared transitionRefusal transitionsRefusal unusedEvent exits withTarget grown reached unreachableState
     systemRefusal placeIn places crosses move inAlphabet effective moveFrom fire both fireAll productStep productRuns duplicateState unplacedState
     transitionsOf enters allOrNone uniform nonuniformEvent ineffectiveEvent inPre ready common excited openState openEvent closureRefusal
-    machineRefusal machinesRefusal coverRefusal select suffices tryDrop thinBelow keptMarks isDigit isLetter isNameByte isFigure isName digits
+    machineRefusal machinesRefusal coverRefusal select suffices tryDrop thinBelow keptMarks isDigit isLetter isCapital lower isNameByte isFigure isName digits
     isMachineLine isStepLine startGiven statesLine spacedName eventsLine stepLine spacedFigure place machineLine lineAfter eventNumber valueOf distinct inLimit
     isDeclared ended lineThen linesFrom read asFarAs7 asFarAs10 asFarAs12 lend addMove movesBelow sheetLine sheetLines moveBytes writtenMove writtenLine writtenCount writtenSheet boardOf sheet
     check blocker oneMore runFrom outcomeOf padded ranAnswer runEvents run keptOf thin name lineTwo nameAt

@@ -2,7 +2,7 @@
 use mathlib.Core.Path.{_≡_, refl}
 use mathlib.Core.List.{[], _∷_, map}
 use Rattle.model.specs.Lists.{every}
-use Rattle.model.specs.Bytes.{bytes, isDigit, isLetter, isNameByte, isName}
+use Rattle.model.specs.Bytes.{bytes, isDigit, isLetter, isCapital, lower, isNameByte, isName}
 use Rattle.command_line.specs.Words.{serviceSaid, isNumeral, isNameWord}
 use Rattle.command_line.specs.Program.{serviceAsked, furtherWords}
 use Rattle.replies.specs.declared.Reply.the-variants as R
@@ -31,7 +31,7 @@ pub record RepliesToWords : Type 0 where
   pub served : replyAsked (bytes "run" ∷ bytes "ready" ∷ bytes "1" ∷ []) ≡ R.Service
 
 pub replies : RepliesToWords
-unfolding every isDigit isLetter isNameByte isName serviceSaid isNumeral isNameWord serviceAsked furtherWords isRefusal numberFrom refusalSaid saysEvent takesAfterExplain takes leastWords
+unfolding every isDigit isLetter isCapital lower isNameByte isName serviceSaid isNumeral isNameWord serviceAsked furtherWords isRefusal numberFrom refusalSaid saysEvent takesAfterExplain takes leastWords
     wrongFrom isUnknown wrongWord helpAsked explanationAsked replyBy replyAsked
 replies =
     record {

@@ -8,7 +8,7 @@ use lib.ListN.{length, replicate}
 use Rattle.model.specs.Lists.{numbers, exists, every, first, index, isSome, isEmpty}
 use Rattle.model.specs.Refusal.{refuse, refused, passed, refusalOf}
 use Rattle.model.specs.Product.{moveFrom, both, oneMore, inAlphabet, effective, fire, fireAll, productStep, blocker, runFrom}
-use Rattle.model.specs.Bytes.{bytes, isDigit, isLetter, isNameByte, isFigure, isName, digits}
+use Rattle.model.specs.Bytes.{bytes, isDigit, isLetter, isCapital, lower, isNameByte, isFigure, isName, digits}
 use Rattle.model.specs.Text.{distinct}
 use Rattle.model.specs.Sheet.{moveBytes, writtenMove, writtenLine, writtenCount, writtenSheet, countForm, moveForm, headForm, lineForm}
 use Rattle.model.specs.Services.{lend, Outcome, whole, blocked, refusedBy, outcomeOf, padded, ranAnswer}
