@@ -54,10 +54,11 @@ pub mod BoardNames
 pub mod BoardRuns
 pub mod OwnSheets
 pub mod OwnRuns
--- the services and the demands; TwoForms: what is read does not hang on whether line 1 writes start 0 out
+-- the services and the demands; Alike, AlikeTexts: what is read hangs neither on the form of line 1 nor on the spelling of steps
 pub mod Cases
 pub mod Verdicts
-pub mod TwoForms
+pub mod Alike
+pub mod AlikeTexts
 pub mod Lending
 pub mod Naming
 pub mod Refusing
@@ -71,3 +72,5 @@ pub mod Merging
 pub mod MergeResult
 pub mod MergedText
 pub mod Merges
+-- spelling: names that are one event, in other words, and texts respelt
+pub mod Spellings

@@ -9,7 +9,7 @@ use lib.Dec.{T, eqb, eqb→eq}
 use Rattle.model.specs.Bytes.{Name, IsName, Letter, Digit}
 use Rattle.model.specs.Board.{splitNames}
 use Rattle.model.specs.BoardTable.{ended, Unbroken, OddName}
-use Rattle.model.proofs.Laws.{dec, T-true, T-false, contra, neqb, eqb-of, found}
+use Rattle.model.proofs.Laws.{dec, T-true, T-false, contra, neqb, eqb-of}
 
 -- ---- a list of names
 

@@ -1,20 +1,19 @@
 -- The names on a sheet, each once, and that they are at most 64.
-use Prim.Native.Nat.{ℕ, zero, suc, _+_, _-_, _≤_}
+use Prim.Native.Nat.{ℕ, suc, _+_, _-_, _≤_}
 use native.Mathlib.Omega.{arith}
 use mathlib.Core.Path.{_≡_, refl, ap, sym, _∙_, subst}
 use mathlib.Core.Logic.{_⊎_, inl, inr}
 use mathlib.Core.Bool.{not, cond}
 use mathlib.Core.List.{List, [], _∷_, _++_, flatMap, List·Memᴰ, List·Memᴰ·head, List·Memᴰ·tail, List·Memᴰ·append-cases, List·Memᴰ·eq-of-singleton, Memᴰ·append-left, Memᴰ·append-right}
-use mathlib.Core.Option.{Option·some-injective, Option·none-ne-some}
+use mathlib.Core.Option.{Option·none-ne-some}
 use lib.Dec.{T}
 use lib.ListN.{length, length-append}
 use Rattle.model.specs.Lists.{At, exists}
 use Rattle.model.specs.Bytes.{Name, OneEvent, sameName}
-use Rattle.model.specs.Text.{distinct}
 use Rattle.model.specs.Sheet.{NamedMove, NamedLine, Board}
 use Rattle.model.specs.Board.{addName, addNames, namesOn}
 use Rattle.model.specs.BoardTable.{OnSheet, FewNames}
-use Rattle.model.proofs.Laws.{dec, T-true, T-false, not-T, contra, and-l, and-r, and-i}
+use Rattle.model.proofs.Laws.{dec, T-true, T-false, contra}
 use Rattle.model.proofs.ListLaws.{mem-split}
 use Rattle.model.proofs.Positions.{at-mem, mem-at}
 use Rattle.model.proofs.Sheets.{at-snoc}

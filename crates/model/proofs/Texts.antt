@@ -43,7 +43,7 @@ complete-reads s ls b c h =
       value = refl;
     }
 
-counted-exists : (ls : List Line) → 1 ≤ count isMachineLine ls → T (exists isMachineLine ls)
+pub counted-exists : (ls : List Line) → 1 ≤ count isMachineLine ls → T (exists isMachineLine ls)
 counted-exists ls h = go (dec (exists isMachineLine ls))
   where
     go : T (exists isMachineLine ls) ⊎ T (not (exists isMachineLine ls)) → T (exists isMachineLine ls)
@@ -130,8 +130,13 @@ module _ (s : List ℕ) (n : ℕ) (o : Option ℕ) (es : List Name) (ts : List N
   unfolding write
   fits =
       let q = shortest (startOf o) in
-      omega (arith, short, ap length bytes, shortest-text n o es ts ms,
-      respelt-bytes (linesWith q (input n (startOf o) es (map (numbered es) ts) ms)) (lines n q es ts ms) (own q))
+      omega (
+        arith,
+        short,
+        ap length bytes,
+        shortest-text n o es ts ms,
+        respelt-bytes (linesWith q (input n (startOf o) es (map (numbered es) ts) ms)) (lines n q es ts ms) (own q),
+      )
 
   some-machine : 1 ≤ length ms
   some-machine = subst (λ (k : ℕ). 1 ≤ k) (machines-counted n o es ts ms ms) (count-some isMachineLine (lines n o es ts ms) (c .machine))
