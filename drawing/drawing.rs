@@ -27,7 +27,7 @@ pub fn event_of(refusal: &Refusal) -> Option<usize> {
 }
 
 fn look(text: &Text, refusal: &Refusal, step: &Step) -> Look {
-    let is_named = event_of(refusal).is_some_and(|event| text.event(event) == step.event);
+    let is_named = event_of(refusal).is_some_and(|event| step.is_of(text.event(event)));
     let is_marked = match refusal.number {
         1..=4 => refusal.first == step.line,
         5 => refusal.first == step.line || refusal.second == step.line,

@@ -13,8 +13,16 @@ const NAME: usize = 16;
 pub struct Step {
     pub line: usize,
     pub from: usize,
+    /// As its line spells it.
     pub event: String,
     pub to: usize,
+}
+
+impl Step {
+    /// Names that differ only in case are one event.
+    pub fn is_of(&self, event: &str) -> bool {
+        self.event.eq_ignore_ascii_case(event)
+    }
 }
 
 /// For each place its states in the order of the text.
@@ -126,7 +134,7 @@ impl Text {
 
     /// The steps of an event.
     pub fn steps_of<'a>(&'a self, event: &'a str) -> impl Iterator<Item = &'a Step> {
-        self.steps.iter().filter(move |step| step.event == event)
+        self.steps.iter().filter(move |step| step.is_of(event))
     }
 }
 

@@ -9,8 +9,9 @@ fn explain_text(refusal: usize, first: &[u8], second: &[u8]) {
               text has no line % though it must.\n\
               Usual causes: byte 13 before byte 10, as Windows ends lines; a byte order mark;\n\
               no byte 10 after the last line; a tab, a second space, or a space at an end; a\n\
-              blank line or a comment; a capital, an underscore or over 16 bytes in a name; a\n\
-              figure of four digits or with a leading zero; a step line after a machine line.\n\
+              blank line or a comment; an underscore or over 16 bytes in a name; a capital in\n\
+              a word that is no name; a figure of four digits or with a leading zero; a step\n\
+              line after a machine line.\n\
               ./split help text shows the form.\n",
             first,
             second,
@@ -25,7 +26,7 @@ fn explain_text(refusal: usize, first: &[u8], second: &[u8]) {
         ),
         3 => put_filled(
             b"stranger: line % names a state not below the count (on line 1 the start), an\n\
-              event not on line 2, or one event twice.\n\
+              event not on line 2, or one event twice, perhaps spelt READY and Ready.\n\
               Declare the event once on line 2, or correct the state or event on line %.\n",
             first,
             second,

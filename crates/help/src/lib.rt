@@ -104,9 +104,10 @@ pub fn put_text_form() {
           \n\
           Every line ends in byte 10, the last one too, with no byte 13 before it. One\n\
           space parts two items and none stands elsewhere; no tab, no blank line, no\n\
-          comment, no byte order mark. A name has 1 to 16 of a-z, 0-9 and hyphen, a letter\n\
-          first. A figure has 1 to 3 digits and no leading zero, but for 0 itself. A\n\
-          machine has each state in one place, and no place is empty.\n\
+          comment, no byte order mark. A name has 1 to 16 of a-z, A-Z, 0-9 and hyphen, a\n\
+          letter first; ready and READY are one event. A figure has 1 to 3 digits and no\n\
+          leading zero, but for 0 itself. A machine has each state in one place, and no\n\
+          place is empty.\n\
           \n\
           Bounds: 32768 bytes; 1 to 256 states; 0 to 64 events; 0 to 1024 steps; 1 to 16\n\
           machines; 1 to 64 places in a machine.\n\
