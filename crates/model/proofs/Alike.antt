@@ -14,7 +14,7 @@ use Rattle.model.specs.Form.{Line, states, events, step, machine, startO
 use Rattle.model.specs.Text.{eventNumber, stateCount, initialState, eventNames, transitionsIn, machinesIn, valueOf}
 use Rattle.model.specs.Table.{OverLimit, Undeclared, Fine}
 use Rattle.model.proofs.Laws.{dec, T-true, T-false, not-T, contra}
-use Rattle.model.proofs.OneEvent.{one-of, of-one, one-refl, one-sym, one-trans, one-name}
+use Rattle.model.proofs.OneEvent.{one-refl, one-sym, one-trans, one-name, same-test}
 use Rattle.model.proofs.Chains.{Each, Proper}
 
 pub data Alike : Line → Line → Type 0 where
@@ -75,13 +75,7 @@ by-lines g h (l ∷ ls) (k ∷ ks) p = h l k ls ks (p .0) (by-lines g h ls ks (p
 same-number : (es : List Name) (e f : Name) → OneEvent e f → eventNumber es e ≡ eventNumber es f
 unfolding eventNumber index
 same-number [] e f o = refl
-same-number (x ∷ es) e f o = rw (same-number es e f o) (ap (λ (b : Bool). cond b 0 (suc (eventNumber es f))) (test (dec (sameName f x))))
-  where
-    test : T (sameName f x) ⊎ T (not (sameName f x)) → sameName e x ≡ sameName f x
-    test (inl t) = T-true (sameName e x) (of-one e x (one-trans e f x o (one-of f x t))) ∙ sym (T-true (sameName f x) t)
-    test (inr t) =
-        T-false (sameName e x) (not-T (sameName e x) (λ u. contra (sameName f x) t (of-one f x (one-trans f e x (one-sym e f o) (one-of e x u)))))
-        ∙ sym (T-false (sameName f x) t)
+same-number (x ∷ es) e f o = rw (same-number es e f o) (ap (λ (b : Bool). cond b 0 (suc (eventNumber es f))) (same-test e f x o))
 
 step-test : (l k : Line) → Alike l k → isStepLine l ≡ isStepLine k
 unfolding isStepLine

@@ -13,7 +13,7 @@ use Rattle.model.specs.Bytes.{isCapital, Letter, Digit, Name, IsName, lo
 use Rattle.model.specs.Text.{distinct}
 use Rattle.model.specs.Table.{DeclaredTwice}
 use Rattle.model.specs.Spelling.{SmallOf, OtherCase}
-use Rattle.model.proofs.Laws.{dec, cond-true, cond-false, exists-intro, exists-elim, eqb-of, and-l, and-r, and-i, and-not, not-not, not-T, contra, order}
+use Rattle.model.proofs.Laws.{dec, T-true, T-false, cond-true, cond-false, exists-intro, exists-elim, eqb-of, and-l, and-r, and-i, and-not, not-not, not-T, contra, order}
 use Rattle.model.proofs.Positions.{at-mem, mem-at}
 
 -- ---- bytes
@@ -109,6 +109,16 @@ one-sym e f p = sym p
 
 pub one-trans : (e f g : Name) → OneEvent e f → OneEvent f g → OneEvent e g
 one-trans e f g p q = p ∙ q
+
+-- names that are one event are the same to the test
+pub same-test : (e f x : Name) → OneEvent e f → sameName e x ≡ sameName f x
+same-test e f x o = go (dec (sameName f x))
+  where
+    go : T (sameName f x) ⊎ T (not (sameName f x)) → sameName e x ≡ sameName f x
+    go (inl t) = T-true (sameName e x) (of-one e x (one-trans e f x o (one-of f x t))) ∙ sym (T-true (sameName f x) t)
+    go (inr t) =
+        T-false (sameName e x) (not-T (sameName e x) (λ u. contra (sameName f x) t (of-one f x (one-trans f e x (one-sym e f o) (one-of e x u)))))
+        ∙ sym (T-false (sameName f x) t)
 
 pub one-length : (e f : Name) → OneEvent e f → length e ≡ length f
 one-length e f p = sym (length-map e lower) ∙ ap length p ∙ length-map f lower
