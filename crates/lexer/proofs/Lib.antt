@@ -9,7 +9,7 @@ pub mod Answers
 -- items one after another, and the readers that go on
 pub mod Loops
 pub mod Moves
--- a name is told by its length and its two numbers
+-- the event of a name is told by its length and its two numbers
 pub mod Telling
 -- readers one after another
 pub mod Joining

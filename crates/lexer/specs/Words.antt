@@ -1,8 +1,8 @@
 -- What the code answers to what a reader of the model finds.
 use Prim.Native.Nat.{ℕ, _+_, _*_}
-use mathlib.Core.List.{List, [], _∷_}
+use mathlib.Core.List.{List, [], _∷_, map}
 use lib.ListN.{length, take, drop}
-use Rattle.model.specs.Bytes.{Name}
+use Rattle.model.specs.Bytes.{Name, lower}
 use Rattle.model.specs.Reading.{Parsed, fail, got}
 use Rattle.lexer.specs.declared.Word.{Word}
 use Rattle.lexer.specs.declared.Word.the-variants.{Missing, Found}
@@ -28,12 +28,12 @@ packedFrom v (b ∷ w) = packedFrom (v * 256 + b) w
 abbrev pub packed : List ℕ → ℕ
 packed = packedFrom 0
 
--- a name of at most 16 bytes as two numbers: its first eight bytes, and the others
+-- a name of at most 16 bytes as two numbers, which those of one event share: in small letters its first eight bytes, and the others
 abbrev pub high : Name → ℕ
-high w = packed (take 8 w)
+high w = packed (take 8 (map lower w))
 
 abbrev pub low : Name → ℕ
-low w = packed (drop 8 w)
+low w = packed (drop 8 (map lower w))
 
 abbrev pub foundName : Name → ℕ → NameWord
 foundName w next = N.Found (length w) (high w) (low w) next

@@ -1,8 +1,12 @@
 // Words at a position of a text: literals, figures and names.
 ghost use mathlib.Core.Path.{_≡_};
+ghost use mathlib.Core.Bool.{_&&_};
+ghost use mathlib.Core.List.{map};
 ghost use Prim.Native.Nat.{_+_, _-_, _<_, min};
+ghost use lib.Dec.{leb};
 ghost use lib.ListN.{getD, take, drop};
-ghost use Rattle.model.specs.Bytes.{isDigit, isLetter, isNameByte, leading};
+ghost use Rattle.model.specs.Bytes.{isDigit, isCapital, isLetter, isNameByte, leading};
+ghost use Rattle.model.specs.Bytes as Bytes;
 ghost use Rattle.model.specs.Reading.{litBytes, figure, name};
 ghost use Rattle.model.specs.Form.{spacedFigure, spacedName};
 ghost use Rattle.lexer.specs.Words.{asLiteral, asFigure, asName, packed};
@@ -13,7 +17,7 @@ pub enum Word {
     Found { value: usize, next: usize },
 }
 
-// A name at a position: its length, its first eight bytes and its others as numbers in base 256, and the position after it.
+// A name at a position: its length, in small letters its first eight bytes and its others as numbers in base 256, and the position after it.
 pub enum NameWord {
     Missing,
     Found {
@@ -30,10 +34,29 @@ pub fn is_digit(b: u8) -> bool
     b'0' <= b && b <= b'9'
 }
 
+fn is_small(b: u8) -> bool
+    ensures { λ r. ⌜ r ≡ (leb 97 b && leb b 122) ⌝ }
+{
+    b'a' <= b && b <= b'z'
+}
+
+fn is_capital(b: u8) -> bool
+    ensures { λ r. ⌜ r ≡ isCapital b ⌝ }
+{
+    b'A' <= b && b <= b'Z'
+}
+
 fn is_letter(b: u8) -> bool
     ensures { λ r. ⌜ r ≡ isLetter b ⌝ }
 {
-    b'a' <= b && b <= b'z'
+    is_small(b) | is_capital(b)
+}
+
+// a to z for A to Z.
+pub fn lower(b: u8) -> u8
+    ensures { λ r. ⌜ r ≡ Bytes.lower b ⌝ }
+{
+    if is_capital(b) { b + 32 } else { b }
 }
 
 fn is_name_byte(b: u8) -> bool
@@ -124,7 +147,7 @@ pub fn byte_word(b: u8) -> u64
     b as u64
 }
 
-// Name bytes as a number in base 256, and the position after them.
+// Name bytes in small letters as a number in base 256, and the position after them.
 struct Packed {
     value: u64,
     next: usize,
@@ -133,7 +156,7 @@ struct Packed {
 // The name bytes from a position on, at most the eight that 64 bits hold.
 fn pack_run(s: &[u8], from: usize) -> Packed
     ensures { λ r. ⌜ r .next ≡ from + min 8 (leading isNameByte (drop from (now (s .entry)))) ⌝ }
-    ensures { λ r. ⌜ r .value ≡ packed (take (r .next - from) (drop from (now (s .entry)))) ⌝ }
+    ensures { λ r. ⌜ r .value ≡ packed (map Bytes.lower (take (r .next - from) (drop from (now (s .entry))))) ⌝ }
 {
     let mut value: u64 = 0;
     let mut i = from;
@@ -142,7 +165,8 @@ fn pack_run(s: &[u8], from: usize) -> Packed
         if !is_name_byte(b) {
             return Packed { value, next: i };
         }
-        value = value * 256 + byte_word(b);
+        // of name bytes capitals alone lack bit 5, and with it they are small letters
+        value = value * 256 + byte_word(b | 32);
         i += 1;
     }
     Packed { value, next: i }

@@ -1,16 +1,19 @@
--- `lexer::is_letter` meets its contract: each way out is one case of the test.
-use borrow.Author.Tests.{le-leb, lt-leb}
+-- `lexer::is_letter` meets its contract: the two tests.
+use borrow.Author.Needs.{needs}
+use mathlib.Core.Path.{sym}
 use Rattle.model.specs.Bytes.{isLetter}
 use Rattle.lexer.proofs.is_letter.Statement.{statement}
 use Rattle.lexer.proofs.is_letter.Tie as tie
 
+is-small-requires : tie.Need-is-small-requires
+is-small-requires c κs = search needs
+
+is-capital-requires : tie.Need-is-capital-requires
+is-capital-requires c κs = search needs
+
 returns : tie.Need-returns
 unfolding isLetter
-returns c = simp (le-leb _ _ (c .if1 .taken))
-
-returns-2 : tie.Need-returns-2
-unfolding isLetter
-returns-2 c = simp (lt-leb _ _ (c .if1 .left))
+returns c = simp (sym (c .before .is-small .ensures), sym (c .is-capital .ensures))
 
 pub is-letter-spec : {M : Type 1} → statement M
-is-letter-spec = tie.close (tie.spec returns returns-2)
+is-letter-spec = tie.close (tie.spec is-small-requires is-capital-requires returns)

@@ -4,7 +4,7 @@ use native.Mathlib.Omega.{arith}
 use mathlib.Core.Path.{refl}
 use borrow.Author.Needs.{needs}
 use denote.Ref.{now}
-use Rattle.model.specs.Bytes.{isDigit, isLetter, isNameByte}
+use Rattle.model.specs.Bytes.{isDigit, isCapital, isLetter, isNameByte}
 use Rattle.lexer.proofs.Runs.{Passes, passing, failing}
 use Rattle.lexer.proofs.Packing.{Packing, pack-start, pack-more, pack-fits, pack-stop, pack-full}
 use Rattle.lexer.proofs.pack_run.Statement.{statement}
@@ -17,7 +17,7 @@ abbrev μ-loop : tie.MeasureT-loop
 μ-loop s from value₀ i₀ value i = from + 8 - i
 
 name-byte : (c : tie.Else1 Inv-loop μ-loop) → Passes isNameByte (now (c .before .before .before .before .before .before .args .s)) (c .before .before .before .before .loop .i)
-unfolding isDigit isLetter isNameByte
+unfolding isDigit isCapital isLetter isNameByte
 name-byte c = passing (c .before .is-name-byte .ensures) (c .before .before .byte-at .ensures) refl (c .if1 .left)
 
 loop-holds : tie.Need-loop-holds Inv-loop μ-loop
@@ -54,7 +54,7 @@ loop-less c = search needs
 
 loop-again : tie.Need-loop-again Inv-loop μ-loop
 loop-again c =
-    pack-more (c .before .before .before .before .before .loop .inv) (c .before .before .before .before .loop-test .taken) (name-byte (c .before)) (omega arith) (c .byte-word .ensures .1)
+    pack-more (c .before .before .before .before .before .loop .inv) (c .before .before .before .before .loop-test .taken) (name-byte (c .before)) (c .before .before .before .byte-at .ensures) (omega arith) (c .byte-word .ensures .0)
 
 returns-2 : tie.Need-returns-2 Inv-loop μ-loop
 returns-2 c = (pack-full (c .before .loop .inv) (c .loop-test .left), c .before .loop .inv .value)

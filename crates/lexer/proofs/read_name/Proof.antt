@@ -4,7 +4,7 @@ use mathlib.Core.Path.{refl, ap}
 use mathlib.Core.Bool.{not}
 use borrow.Author.Needs.{needs}
 use denote.Ref.{now}
-use Rattle.model.specs.Bytes.{isDigit, isLetter, isNameByte}
+use Rattle.model.specs.Bytes.{isDigit, isCapital, isLetter, isNameByte}
 use Rattle.lexer.proofs.Runs.{Passes, passing, failing}
 use Rattle.lexer.proofs.Packing.{Halves}
 use Rattle.lexer.proofs.Words.{name-none, name-long, name-16, name-short}
@@ -12,7 +12,7 @@ use Rattle.lexer.proofs.read_name.Statement.{statement}
 use Rattle.lexer.proofs.read_name.Tie as tie
 
 letter : (c : tie.Else1) → Passes isLetter (now (c .before .before .before .before .args .s)) (c .before .before .before .before .args .at)
-unfolding isLetter
+unfolding isCapital isLetter
 letter c = passing (c .before .is-letter .ensures) (c .before .before .byte-at .ensures) refl (c .if1 .left)
 
 halves : (c : tie.After-pack-run2) → Halves (now (c .before .before .before .before .before .before .args .s)) (c .before .before .before .before .before .before .args .at)
@@ -52,7 +52,7 @@ is-name-byte-requires : tie.Need-is-name-byte-requires
 is-name-byte-requires c κs = search needs
 
 returns-2 : tie.Need-returns-2
-unfolding isDigit isLetter isNameByte
+unfolding isDigit isCapital isLetter isNameByte
 returns-2 c =
     name-long (halves (c .before .before .before .before .before))
     (passing (c .before .is-name-byte .ensures) (c .before .before .byte-at2 .ensures) refl (ap not (c .if3 .taken)))
