@@ -1,18 +1,18 @@
--- The rows tell the names that they hold.
+-- The rows tell the names that they hold, but for their case.
 use Prim.Native.Nat.{ℕ, _<_}
 use native.Mathlib.Omega.{arith}
-use mathlib.Core.Path.{_≡_, ap, _∙_}
+use mathlib.Core.Path.{_≡_, ap, sym, _∙_}
 use mathlib.Core.Bool.{true, _&&_}
 use mathlib.Core.List.{List, []}
 use lib.Dec.{eqb}
 use lib.ListN.{length, getD}
 use borrow.Author.Tests.{eqb-true}
 use Rattle.model.specs.Lists.{At}
-use Rattle.model.specs.Bytes.{Name, IsName}
+use Rattle.model.specs.Bytes.{Name, IsName, OneEvent}
 use Rattle.model.proofs.Laws.{both}
 use Rattle.model.proofs.Positions.{at-getD, getD-mem}
 use Rattle.lexer.specs.Words.{high, low}
-use Rattle.lexer.proofs.Telling.{EachByte, told, name-bytes}
+use Rattle.lexer.proofs.Telling.{told-one}
 use Rattle.rows.proofs.Rows.{row-at}
 use Rattle.names.specs.Held.{PackedNames, Same}
 
@@ -31,9 +31,15 @@ module _ {es : List Name} {count : ℕ} {lens highs lows : List ℕ} (r : Packed
   pub entry-name : IsName (getD es k [])
   entry-name = r .names (getD es k []) (getD-mem es k [] (omega arith))
 
-  -- a word of this length and these numbers is the name k
-  pub entry-told : {w : Name} {n h l : ℕ} → EachByte w → n ≡ length w → h ≡ high w → l ≡ low w → Same lens highs lows n h l k → w ≡ getD es k []
-  entry-told {w} o p q i s = let t = entry in told w (getD es k []) o (name-bytes (getD es k []) entry-name) (cc) (cc) (cc)
+  -- what the name k has in common with what was found to have its length and its numbers
+  pub entry-same : {n h l : ℕ} → Same lens highs lows n h l k → (length (getD es k []) ≡ n) × (high (getD es k []) ≡ h) × (low (getD es k []) ≡ l)
+  entry-same s = let t = entry in (sym (t .long) ∙ s .long, sym (t .high) ∙ s .high, sym (t .low) ∙ s .low)
+
+  -- a name of this length and these numbers is one event with the name k
+  pub entry-told : {w : Name} {n h l : ℕ} → IsName w → n ≡ length w → h ≡ high w → l ≡ low w → Same lens highs lows n h l k → OneEvent w (getD es k [])
+  entry-told {w} o p q i s =
+      let (x, y, z) = entry-same s in
+      told-one w (getD es k []) o entry-name (sym p ∙ sym x) (sym q ∙ sym y) (sym i ∙ sym z)
 
 -- the code's tests of an entry
 pub same : (lens highs lows : List ℕ) (n h l k : ℕ) → ((eqb (getD highs k 0) h && eqb (getD lows k 0) l) && eqb (getD lens k 0) n) ≡ true

@@ -1,39 +1,38 @@
--- Looking names up in rows: the first entry with a name's length and numbers is its number, and names are distinct if each is the first of its own.
+-- Looking names up in rows: the first entry with a name's length and numbers is its event's number, and names are distinct if each is the first of its own.
 use Prim.Native.Nat.{ℕ, _+_, _<_, _≤_}
 use borrow.Author.Count.{below-more}
 use native.Mathlib.Omega.{arith}
-use mathlib.Core.Path.{_≡_, ap, sym, _∙_, subst}
-use mathlib.Core.Logic.{_⊎_, inl, inr, ⊎-elim}
+use mathlib.Core.Path.{_≡_, ap, sym, _∙_}
+use mathlib.Core.Logic.{_⊎_, inl, inr}
 use mathlib.Core.Bool.{true, false, not}
 use mathlib.Core.List.{List, []}
 use lib.Dec.{T}
-use lib.ListN.{length, getD}
-use Rattle.model.specs.Lists.{At, exists, index}
-use Rattle.model.specs.Bytes.{Name, IsName, sameName}
+use lib.ListN.{length, getD, take, drop}
+use Rattle.model.specs.Lists.{exists, index}
+use Rattle.model.specs.Bytes.{Name, IsName, OneEvent, sameName}
 use Rattle.model.specs.Text.{eventNumber, distinct}
-use Rattle.model.proofs.Laws.{order, dec, not-T, T-true, T-false}
+use Rattle.model.proofs.Laws.{dec, not-T, T-true, T-false}
 use Rattle.model.proofs.Positions.{at-below, at-getD, getD-mem, at-value, index-first, index-below, index-passes}
-use Rattle.model.proofs.Values.{same-eq, same-refl, mem-named, distinct-once, not-distinct}
-use Rattle.lexer.specs.Words.{high, low}
-use Rattle.lexer.proofs.Telling.{name-bytes}
+use Rattle.model.proofs.OneEvent.{one-of, of-one, one-refl, one-sym, one-trans, one-length, among-one, distinct-apart, not-distinct}
+use Rattle.lexer.specs.Words.{packed, high, low}
 use Rattle.rows.proofs.Searches.{Upto, index-is}
 use Rattle.names.specs.Held.{PackedNames, Same, Finds}
 use Rattle.names.proofs.HeldNames.{entry, entry-name, entry-told}
 
--- the entry k has what is sought if and only if it is this name
+-- the entry k has what is sought if and only if it is this event's name
 module _ {es : List Name} {count : ℕ} {lens highs lows : List ℕ} (r : PackedNames es count lens highs lows) (k : ℕ) (b : k < count)
     {e : Name} {n h l : ℕ} (w : IsName e) (p : n ≡ length e) (q : h ≡ high e) (o : l ≡ low e) where
   same-name : Same lens highs lows n h l k → T (sameName e (getD es k []))
-  same-name s = subst (λ (x : Name). T (sameName e x)) (entry-told r k b (name-bytes e w) p q o s) (same-refl e)
+  same-name s = of-one e (getD es k []) (entry-told r k b w p q o s)
 
   name-same : T (sameName e (getD es k [])) → Same lens highs lows n h l k
   name-same u =
-      let i : e ≡ getD es k [] = same-eq e (getD es k []) u in
+      let i : OneEvent e (getD es k []) = one-of e (getD es k []) u in
       let t = entry r k b in
       record {
-        high = t .high ∙ ap high (sym i) ∙ sym q;
-        low = t .low ∙ ap low (sym i) ∙ sym o;
-        long = t .long ∙ ap length (sym i) ∙ sym p;
+        high = t .high ∙ ap (λ (x : List ℕ). packed (take 8 x)) (sym i) ∙ sym q;
+        low = t .low ∙ ap (λ (x : List ℕ). packed (drop 8 x)) (sym i) ∙ sym o;
+        long = t .long ∙ sym (one-length e (getD es k []) i) ∙ sym p;
       }
 
 -- the search stops at the entry, or at the end
@@ -62,17 +61,18 @@ pub record Firsts (count : ℕ) (lens highs lows : List ℕ) (k : ℕ) : Type 0 
   pub most : k ≤ count
   pub own : (es : List Name) → PackedNames es count lens highs lows → (j : ℕ) → j < k → eventNumber es (getD es j []) ≡ j
 
--- of distinct names each is the first of its own
-pub own-number : (es : List Name) (k : ℕ) → k < length es → T (distinct es) → eventNumber es (getD es k []) ≡ k
+-- of distinct names each is the first of its own, however it is written
+pub event-number : (es : List Name) (k : ℕ) → k < length es → T (distinct es) → (e : Name) → OneEvent e (getD es k []) → eventNumber es e ≡ k
 unfolding eventNumber
-own-number es k b t =
-    let e = getD es k [] in
+event-number es k b t e o =
     let n = index (sameName e) es in
-    let u : T (exists (sameName e) es) = mem-named e es (getD-mem es k [] b) in
-    let p : e ≡ getD es n [] = same-eq e (getD es n []) (index-passes (sameName e) es [] u) in
-    let m : n ≤ k = index-first (sameName e) es k e (at-getD es k [] b) (same-refl e) in
-    let a : At es n e = subst (λ (x : Name). At es n x) (sym p) (at-getD es n [] (index-below (sameName e) es u)) in
-    ⊎-elim (λ (l : n < k). absurd (distinct-once es t e (n, k, l, a, at-getD es k [] b))) (λ l. omega arith) (order n k)
+    let f = getD es n [] in
+    let u : T (exists (sameName e) es) = among-one e es (getD es k [], getD-mem es k [] b, o) in
+    let p : OneEvent e f = one-of e f (index-passes (sameName e) es [] u) in
+    distinct-apart es t n k f (getD es k []) (at-getD es n [] (index-below (sameName e) es u)) (at-getD es k [] b) (one-trans f e (getD es k []) (one-sym e f p) o)
+
+pub own-number : (es : List Name) (k : ℕ) → k < length es → T (distinct es) → eventNumber es (getD es k []) ≡ k
+own-number es k b t = event-number es k b t (getD es k []) (one-refl (getD es k []))
 
 -- a name that stands earlier too
 repeated : (es : List Name) (k : ℕ) → k < length es → (eventNumber es (getD es k []) ≡ k → ⊥) → false ≡ distinct es
@@ -86,10 +86,10 @@ alone es o = go (dec (distinct es))
     go : T (distinct es) ⊎ T (not (distinct es)) → true ≡ distinct es
     go (inl t) = sym (T-true (distinct es) t)
     go (inr t) =
-        let (e, (i, j, b, p, q)) = not-distinct es t in
-        let m : index (sameName e) es ≤ i = index-first (sameName e) es i e p (same-refl e) in
-        let n : eventNumber es (getD es j []) ≡ j = o j (at-below es j e q) in
-        let s : getD es j [] ≡ e = at-value es j e [] q in
+        let (i, j, e, f, b, p, q, same) = not-distinct es t in
+        let m : index (sameName f) es ≤ i = index-first (sameName f) es i e p (of-one f e (one-sym e f same)) in
+        let n : eventNumber es (getD es j []) ≡ j = o j (at-below es j f q) in
+        let s : getD es j [] ≡ f = at-value es j f [] q in
         absurd (omega (arith, rw s at n))
 
 pub firsts-start : {count : ℕ} {lens highs lows : List ℕ} → Firsts count lens highs lows 0

@@ -12,7 +12,7 @@ use model::MAX_EVENTS;
 // How many places a table of hints has: for a name's numbers an entry of the rows to try. A fresh one has 0 in each.
 pub const HINTS: usize = 1024;
 
-// The first of the names with this length and these bytes; their count if there is none. Names share beginnings, so the bytes after the eighth are compared first.
+// The first of the names that is this event, by its length and numbers; their count if there is none. Names share beginnings, so the bytes after the eighth are compared first.
 pub fn find_name<'a>(
     len: &'a [usize; MAX_EVENTS],
     high: &'a [u64; MAX_EVENTS],
@@ -39,7 +39,7 @@ pub fn find_name<'a>(
     k
 }
 
-// No name is the same as an earlier one.
+// No name is one event with an earlier one.
 pub fn distinct_names<'a>(
     len: &'a [usize; MAX_EVENTS],
     high: &'a [u64; MAX_EVENTS],
@@ -59,7 +59,7 @@ pub fn distinct_names<'a>(
     true
 }
 
-// Entry k is the name of this size with these numbers.
+// Entry k is a name of this event, by its size and its numbers.
 pub fn is_name_at<'a>(
     len: &'a [usize; MAX_EVENTS],
     high: &'a [u64; MAX_EVENTS],
