@@ -1,23 +1,25 @@
--- Bytes as a number in base 256: its first digits are the number of the first bytes.
-use Prim.Native.Nat.{ℕ, suc, _+_, _-_, _*_, _/_, _^_, _<_, _≤_, min}
+-- Bytes as a number in base 256: its first digits are the number of the first bytes. A name's numbers tell its event.
+use Prim.Native.Nat.{ℕ, zero, suc, _+_, _-_, _*_, _/_, _^_, _<_, _≤_, min}
 use native.Mathlib.Nat.{add-mul, mul-assoc, mul-le-mul-right}
 use native.Mathlib.Numerals.{add-one}
 use native.Mathlib.Omega.{arith}
 use mathlib.Core.Path.{_≡_, refl, ap, sym, _∙_}
 use mathlib.Core.Logic.{_⊎_, inl, inr}
-use mathlib.Core.List.{List, [], _∷_, _++_, List·Memᴰ·head, List·Memᴰ·tail}
+use mathlib.Core.List.{List, [], _∷_, _++_, map, List·Memᴰ·head, List·Memᴰ·tail}
 use lib.Dec.{T, ltb, ltb→lt}
-use lib.ListN.{length, getD, take, drop, length-take, length-drop, take-append-drop, drop-of-length-le}
+use lib.ListN.{length, getD, take, drop, length-take, length-drop, length-map, take-append-drop, drop-of-length-le}
 use lib.Pow.{pow-add, high}
 use lib.Seq.{drop-cons, take-all, take-take, take-add, drop-drop, drop-at, length-take-le}
-use Rattle.model.specs.Bytes.{bytes}
+use Rattle.model.specs.Bytes.{bytes, lower}
 use Rattle.model.specs.Lists.{every}
 use Rattle.model.specs.Reading.{part}
 use Rattle.model.proofs.Laws.{order, every-elim}
+use Rattle.model.proofs.ListLaws.{map-drop}
 use Rattle.model.proofs.Words.{Spans, spans-part}
 use Rattle.lexer.specs.Words.{packedFrom, packed}
-use Rattle.lexer.proofs.Telling.{EachByte, front, back, told}
-use Rattle.quick_words.specs.Guessed.{Packs}
+use Rattle.lexer.proofs.Telling.{EachByte, front, back, told, name-bytes}
+use Rattle.quick_words.specs.Guessed.{fold, Folds, Packs}
+use Rattle.quick_words.proofs.Folding.{fold-bytes, folded-one}
 
 -- 256 to the power of a number
 abbrev scale : ℕ → ℕ
@@ -62,6 +64,11 @@ first-bytes w h e k l =
     ap packed (sym (take-append-drop k w)) ∙ packed-append (take k w) (drop k w) 0 ∙ rw (packed-from (drop k w) (packed (take k w)), n) refl in
     rw q (high (packed (take k w)) (8 * (8 - k)) (rw n at (packed-below (drop k w) (back k w h))))
 
+map-take : {A B : Type 0} (g : A → B) (k : ℕ) (l : List A) → map g (take k l) ≡ take k (map g l)
+map-take g zero l = refl
+map-take g (suc k) [] = refl
+map-take {B = B} g (suc k) (x ∷ l) = ap (λ (r : List B). g x ∷ r) (map-take g k l)
+
 -- the bytes of a text
 each-byte : (s : List ℕ) → ((i : ℕ) → getD s i 0 < 256) → EachByte s
 each-byte (a ∷ s) h b (List·Memᴰ·head e) = omega (arith, h 0)
@@ -88,6 +95,9 @@ module _ (s : List ℕ) where
       )
       (omega arith)
 
+  eight-long : (at : ℕ) → at + 8 ≤ length s → length (part s at 8) ≡ 8
+  eight-long at h = length-take-le 8 (drop at s) (omega (arith, length-drop at s))
+
   module _ (each : (i : ℕ) → getD s i 0 < 256) where
     each-part : (at n : ℕ) → EachByte (part s at n)
     each-part at n = front n (drop at s) (back at s (each-byte s each))
@@ -95,7 +105,7 @@ module _ (s : List ℕ) where
     -- the first k of the eight bytes at a position
     word : (at k : ℕ) → at + 8 ≤ length s → k ≤ 8 → packed (part s at 8) / 2 ^ (8 * (8 - k)) ≡ packed (part s at k)
     word at k h l =
-        first-bytes (part s at 8) (each-part at 8) (length-take-le 8 (drop at s) (omega (arith, length-drop at s))) k l ∙ rw (take-take k 8 (drop at s) l)
+        first-bytes (part s at 8) (each-part at 8) (eight-long at h) k l ∙ rw (take-take k 8 (drop at s) l)
 
     -- at most eight bytes are told by their number
     told-word : (at : ℕ) (w : List ℕ) → T (every (λ b. ltb b 256) w) → length w ≤ 8 → at + length w ≤ length s → packed (part s at (length w)) ≡ packed w
@@ -115,30 +125,47 @@ module _ (s : List ℕ) where
     opening at v x w t l b e f g =
         told-word at w t l (omega arith) (sym (word at (length w) b l) ∙ ap (λ (y : ℕ). y / 2 ^ (8 * (8 - length w))) (sym e) ∙ sym f ∙ g)
 
+    -- the first k of the eight bytes at a position, folded
+    folded-word : (at k : ℕ) {x : ℕ} → at + 8 ≤ length s → k ≤ 8 → x ≡ packed (map fold (part s at 8)) → x / 2 ^ (8 * (8 - k)) ≡ packed (map fold (part s at k))
+    folded-word at k h l e =
+        let w = part s at 8 in
+        rw e
+        (first-bytes (map fold w) (fold-bytes w (each-part at 8)) (length-map w fold ∙ eight-long at h) k l ∙ rw (← map-take fold k w, take-take k 8 (drop at s) l) refl)
+
     -- a name's first eight bytes, and the others
     module _ (at size : ℕ) (b : at + 16 ≤ length s) (m : size ≤ 16) where
-      pub packs : (f h l : ℕ) → f ≡ min 8 size → h ≡ packed (part s at 8) / 2 ^ (8 * (8 - f)) → l ≡ packed (part s (at + 8) 8) / 2 ^ (8 * (8 - (size - f)))
-          → Packs s at size h l
-      packs f h l p q r =
-          record {
-            bytes = each-part at size;
-            high = q ∙ word at f (omega arith) (omega arith) ∙ ap packed (sym (high-part (order size 8)));
-            low = r ∙ word (at + 8) (size - f) (omega arith) (omega arith) ∙ ap packed (sym (low-part (order size 8)));
-          }
-        where
-          high-part : (size < 8) ⊎ (8 ≤ size) → take 8 (part s at size) ≡ part s at f
-          high-part (inl g) =
-              let e : f ≡ size = omega arith in
-              rw e (take-all 8 (part s at size) (omega (arith, length-take size (drop at s))))
-          high-part (inr g) = let e : f ≡ 8 = omega arith in rw e (take-take 8 size (drop at s) g)
+      abbrev w : List ℕ
+      w = part s at size
 
-          low-part : (size < 8) ⊎ (8 ≤ size) → drop 8 (part s at size) ≡ part s (at + 8) (size - f)
-          low-part (inl g) =
-              let e : size - f ≡ 0 = omega arith in
-              rw e (drop-of-length-le (part s at size) {i = 8} (omega (arith, length-take size (drop at s))))
-          low-part (inr g) =
-              let e : size ≡ 8 + (size - f) = omega arith in
-              let n : length (part s at 8) ≡ 8 = length-take-le 8 (drop at s) (omega (arith, length-drop at s)) in
-              let t : part s at size ≡ part s at 8 ++ part s (at + 8) (size - f) =
-              ap (part s at) e ∙ take-add 8 (size - f) (drop at s) ∙ rw (drop-drop 8 at s) in
-              rw t (drop-at (part s at 8) (part s (at + 8) (size - f)) 8 n)
+      module _ (f : ℕ) (p : f ≡ min 8 size) where
+        high-part : (size < 8) ⊎ (8 ≤ size) → take 8 w ≡ part s at f
+        high-part (inl g) = let e : f ≡ size = omega arith in rw e (take-all 8 w (omega (arith, length-take size (drop at s))))
+        high-part (inr g) = let e : f ≡ 8 = omega arith in rw e (take-take 8 size (drop at s) g)
+
+        low-part : (size < 8) ⊎ (8 ≤ size) → drop 8 w ≡ part s (at + 8) (size - f)
+        low-part (inl g) =
+            let e : size - f ≡ 0 = omega arith in
+            rw e (drop-of-length-le w {i = 8} (omega (arith, length-take size (drop at s))))
+        low-part (inr g) =
+            let e : size ≡ 8 + (size - f) = omega arith in
+            let n : length (part s at 8) ≡ 8 = eight-long at (omega arith) in
+            let t : w ≡ part s at 8 ++ part s (at + 8) (size - f) =
+            ap (part s at) e ∙ take-add 8 (size - f) (drop at s) ∙ rw (drop-drop 8 at s) in
+            rw t (drop-at (part s at 8) (part s (at + 8) (size - f)) 8 n)
+
+        pub packs : {h l t u x y : ℕ} → t ≡ packed (part s at 8) → u ≡ packed (part s (at + 8) 8) → Folds t x → Folds u y → h ≡ x / 2 ^ (8 * (8 - f))
+            → l ≡ y / 2 ^ (8 * (8 - (size - f))) → Packs s at size h l
+        packs {h} {l} g k c d q r =
+            let u : h ≡ packed (take 8 (map fold w)) =
+            q ∙ folded-word at f (omega arith) (omega arith) (c .eight (part s at 8) (each-part at 8) (eight-long at (omega arith)) g)
+            ∙ ap (λ (v : List ℕ). packed (map fold v)) (sym (high-part (order size 8))) ∙ ap packed (map-take fold 8 w) in
+            let v : l ≡ packed (drop 8 (map fold w)) =
+            r ∙ folded-word (at + 8) (size - f) (omega arith) (omega arith) (d .eight (part s (at + 8) 8) (each-part (at + 8) 8) (eight-long (at + 8) (omega arith)) k)
+            ∙ ap (λ (v : List ℕ). packed (map fold v)) (sym (low-part (order size 8))) ∙ ap packed (map-drop fold 8 w) in
+            let n : length w ≡ size = length-take-le size (drop at s) (omega (arith, length-drop at s)) in
+            record {
+              one = λ e o z i j.
+                  folded-one w e (o .each)
+                  (told (map fold w) (map lower e) (fold-bytes w (each-part at size)) (name-bytes e o)
+                  (length-map w fold ∙ n ∙ sym z ∙ sym (length-map e lower)) (sym u ∙ sym i) (sym v ∙ sym j));
+            }

@@ -7,7 +7,7 @@ ghost use lib.ListN.{length};
 ghost use Rattle.model.specs.Reading.{part};
 ghost use Rattle.model.proofs.Words.{Spans};
 ghost use Rattle.lexer.specs.Words.{packed};
-ghost use Rattle.quick_words.specs.Guessed.{SizedFigure, GuessedFigure, Packs};
+ghost use Rattle.quick_words.specs.Guessed.{SizedFigure, GuessedFigure, Folds, Packs};
 use lexer::byte_word;
 use lexer::is_digit;
 
@@ -193,7 +193,14 @@ pub fn short_figure_at(s: &[u8], at: usize) -> Figure
     sized_figure(a, b, 0, x, y, y)
 }
 
-// The bytes of a name as two numbers.
+// A to Z as a to z in each byte of a word: bit 5 is set where bit 6 is. No byte but a name's comes to a letter, a digit or the hyphen.
+fn fold_case(word: u64) -> u64
+    ensures { λ r. ⌜ Folds word r ⌝ }
+{
+    word | ((word >> 1) & 0x2020_2020_2020_2020)
+}
+
+// The bytes of a name in small letters as two numbers.
 pub struct NameNumbers {
     pub high: u64,
     pub low: u64,
@@ -205,13 +212,13 @@ fn at_most_eight(size: usize) -> usize
     if size < 8 { size } else { 8 }
 }
 
-// The bytes at a position, at most 16, as the numbers of a name.
+// The bytes at a position, at most 16, as the numbers of a name. Whole words are folded, so that folding does not wait for the size.
 pub fn pack_name(s: &[u8], at: usize, size: usize) -> NameNumbers
     requires { ⌜ (at + 16 ≤ length (now s)) × (size ≤ 16) ⌝ }
     ensures { λ r. ⌜ Packs (now (s .entry)) at size (r .«high») (r .«low») ⌝ }
 {
     let first = at_most_eight(size);
-    let high = first_bytes(big_endian(s, at), first);
-    let low = first_bytes(big_endian(s, at + 8), size - first);
+    let high = first_bytes(fold_case(big_endian(s, at)), first);
+    let low = first_bytes(fold_case(big_endian(s, at + 8)), size - first);
     NameNumbers { high, low }
 }

@@ -11,6 +11,9 @@ at-most-eight-requires c κs = search needs
 big-endian-requires : tie.Need-big-endian-requires
 big-endian-requires c κs = search needs
 
+fold-case-requires : tie.Need-fold-case-requires
+fold-case-requires c κs = search needs
+
 first-bytes-requires : tie.Need-first-bytes-requires
 first-bytes-requires c κs = search needs
 
@@ -20,6 +23,9 @@ add-big-endian c = search needs
 big-endian-requires-2 : tie.Need-big-endian-requires-2
 big-endian-requires-2 c κs = search needs
 
+fold-case-requires-2 : tie.Need-fold-case-requires-2
+fold-case-requires-2 c κs = search needs
+
 sub-first-bytes : tie.Need-sub-first-bytes
 sub-first-bytes c = search needs
 
@@ -28,10 +34,12 @@ first-bytes-requires-2 c κs = search needs
 
 returns : tie.Need-returns
 returns c =
-    let d = c .before .before .before .before .before .before in
-    let e = c .before .before in
-    packs (now (d .args .s)) (λ i. c .before .before .before .before .before .shared-slice-known .given i .fits) (d .args .at) (d .args .size) (d .pre .0) (d .pre .1) _ _ _
-    (e .before .before .at-most-eight .ensures) (cc) (cc)
+    let low = c .before in
+    let high = low .before .before .before in
+    let d = high .before .before .before .before in
+    packs (now (d .args .s)) (λ i. high .before .before .before .shared-slice-known .given i .fits) (d .args .at) (d .args .size) (d .pre .0) (d .pre .1) _
+    (high .before .before .at-most-eight .ensures) (high .before .big-endian .ensures) (low .before .big-endian2 .ensures) (high .fold-case .ensures)
+    (low .fold-case2 .ensures) (low .before .before .first-bytes .ensures) (c .first-bytes2 .ensures)
 
 pub pack-name-spec : {M : Type 1} → statement M
 pack-name-spec =
@@ -39,9 +47,11 @@ pack-name-spec =
     (tie.spec
     at-most-eight-requires
     big-endian-requires
+    fold-case-requires
     first-bytes-requires
     add-big-endian
     big-endian-requires-2
+    fold-case-requires-2
     sub-first-bytes
     first-bytes-requires-2
     returns)
