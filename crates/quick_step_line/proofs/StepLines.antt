@@ -6,18 +6,18 @@ use mathlib.Core.Bool.{Bool, true, _&&_}
 use mathlib.Core.List.{List, []}
 use lib.Dec.{ltb, eqb}
 use lib.ListN.{length, getD, drop, length-drop}
-use lib.Seq.{length-take-le}
 use borrow.Author.Tests.{ltb-true, eqb-true}
-use Rattle.model.specs.Bytes.{bytes, Name, IsName}
+use Rattle.model.specs.Bytes.{bytes, Name, IsName, OneEvent}
 use Rattle.model.specs.Reading.{got, part}
 use Rattle.model.specs.Form.{step, written, stepLine}
 use Rattle.model.specs.Lists.{every}
 use Rattle.model.proofs.Laws.{both}
 use Rattle.model.proofs.Lines.{step-complete}
+use Rattle.model.proofs.OneEvent.{one-name}
 use Rattle.model.proofs.Words.{Spans, then, spans-part}
 use Rattle.lexer.specs.Words.{packed}
 use Rattle.names.specs.Held.{PackedNames, Same}
-use Rattle.names.proofs.HeldNames.{entry, entry-name, entry-told}
+use Rattle.names.proofs.HeldNames.{entry-name, entry-same}
 use Rattle.quick_words.specs.declared.Figure.{Figure}
 use Rattle.quick_words.specs.Guessed.{FigureStands, GuessedFigure, Packs}
 use Rattle.quick_words.proofs.Standing.{byte}
@@ -65,7 +65,7 @@ framed s at from to end lf le o p q r co cp cq cr t =
       closing = moved refl (omega arith) (cr tr);
     }
 
--- the words where the code guesses them: the name is that of event k, and the line ends at `end`
+-- the words where the code guesses them: the name is one of event k, and the line ends at `end`
 module _ (s lens highs lows : List ℕ) (at n count k size end h l : ℕ) (a b : Figure) (room : at + 40 ≤ length s) (lo : at + 12 ≤ end) (hi : end ≤ at + 36)
     (fa : GuessedFigure s (at + 6) (at + 6 + a .size) a) (fb : GuessedFigure s (end - 1 - b .size) (end - 1) b)
     (sized : NameSize (at + 7 + a .size) (end - 2 - b .size) size) (packed : Packs s (at + 7 + a .size) size h l) where
@@ -76,16 +76,21 @@ module _ (s lens highs lows : List ℕ) (at n count k size end h l : ℕ) (a b :
   to = end - 2 - b .size
 
   line : Framed s at from to end → a .found ≡ true → b .found ≡ true → k < count → Same lens highs lows size h l k
-      → (es : List Name) → PackedNames es count lens highs lows → stepLine s at ≡ got (step (a .value) (getD es k []) (b .value)) (end + 1)
+      → (es : List Name) → PackedNames es count lens highs lows
+      → (w : Name) × OneEvent w (getD es k []) × (stepLine s at ≡ got (step (a .value) w (b .value)) (end + 1))
   line p ta tb c m es r =
       let e = getD es k [] in
+      let w = part s from size in
+      let (long, high, low) = entry-same r k c m in
       let o : IsName e = entry-name r k c in
-      let g : 0 < size = omega (arith, o .least, entry r k c .long, m .long) in
-      let f : from + size ≡ to = sized .ends g in
+      let f : from + size ≡ to = sized .ends (omega (arith, o .least)) in
       let d : size ≤ length (drop from s) = omega (arith, length-drop from s, fa .most, sized .most) in
-      let w : part s from size ≡ e = entry-told r k c (packed .bytes) (sym (length-take-le size (drop from s) d)) (packed .high) (packed .low) m in
-      let q : Spans s from e to = rw w at (spans-part s from size to f d) in
-      words o (p .opening) (fa .stands ta) (moved (omega arith) refl (p .before)) q (moved refl (omega (arith, fb .most)) (p .behind)) (fb .stands tb) (p .closing)
+      let i : OneEvent w e = packed .one e o long high low in (
+        w,
+        i,
+        words (one-name w e i o) (p .opening) (fa .stands ta) (moved (omega arith) refl (p .before)) (spans-part s from size to f d)
+            (moved refl (omega (arith, fb .most)) (p .behind)) (fb .stands tb) (p .closing),
+      )
 
   pub verified : (p q : Bool) → (p ≡ true → Framed s at from to end) → (q ≡ true → Same lens highs lows size h l k)
       → ((((p && a .found) && b .found) && q) && ((ltb (a .value) n && ltb (b .value) n) && ltb k count)) ≡ true

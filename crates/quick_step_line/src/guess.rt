@@ -4,11 +4,11 @@ ghost use lib.ListN.{length};
 use quick_words::little_endian;
 use quick_words::low_zero_bytes;
 
-// How many of a word's bytes, from the lowest on, have bit 5.
-fn count_with_bit_5(word: u64) -> usize
+// How many of a word's bytes, from the lowest on, have bit 5 or bit 6.
+fn count_in_line(word: u64) -> usize
     ensures { λ r. ⌜ r ≤ 8 ⌝ }
 {
-    low_zero_bytes(!word & 0x2020_2020_2020_2020)
+    low_zero_bytes(!(word | (word >> 1)) & 0x2020_2020_2020_2020)
 }
 
 // x where the bit is 1, otherwise 0.
@@ -19,15 +19,15 @@ fn only_if(bit: usize, x: usize) -> usize
     bit * x
 }
 
-// How far from a position, at most 24, the line is guessed to end: at the first byte without bit 5. Byte 10 has none, all others of a step line have it.
+// How far from a position, at most 24, the line is guessed to end: at the first byte without bits 5 and 6. Byte 10 has neither, all others of a step line have one.
 pub fn guess_end(s: &[u8], at: usize) -> usize
     requires { ⌜ at + 24 ≤ length (now s) ⌝ }
     ensures { λ r. ⌜ r ≤ 24 ⌝ }
 {
-    let first = count_with_bit_5(little_endian(s, at));
-    let second = count_with_bit_5(little_endian(s, at + 8));
-    let third = count_with_bit_5(little_endian(s, at + 16));
-    // each 1 where all bytes before that word have the bit
+    let first = count_in_line(little_endian(s, at));
+    let second = count_in_line(little_endian(s, at + 8));
+    let third = count_in_line(little_endian(s, at + 16));
+    // each 1 where all bytes before that word are of the line
     let to_second = first / 8;
     let to_third = only_if(to_second, second / 8);
     first + only_if(to_second, second) + only_if(to_third, third)
