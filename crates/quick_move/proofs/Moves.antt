@@ -6,18 +6,18 @@ use mathlib.Core.Bool.{Bool, true, _&&_}
 use mathlib.Core.List.{List, [], _∷_}
 use lib.Dec.{ltb, eqb}
 use lib.ListN.{length, getD, drop, length-drop}
-use lib.Seq.{length-take-le}
 use borrow.Author.Tests.{ltb-true, eqb-true}
-use Rattle.model.specs.Bytes.{bytes, Name, IsName}
+use Rattle.model.specs.Bytes.{bytes, Name, IsName, OneEvent}
 use Rattle.model.specs.Lists.{every}
 use Rattle.model.specs.Reading.{got, part}
 use Rattle.model.specs.Sheet.{NamedMove, moveBytes, writtenMove, moveForm}
 use Rattle.model.proofs.Laws.{both}
+use Rattle.model.proofs.OneEvent.{one-name}
 use Rattle.model.proofs.SheetForms.{move-complete}
 use Rattle.model.proofs.Words.{Spans, then, spans-part}
 use Rattle.lexer.specs.Words.{packed}
 use Rattle.names.specs.Held.{Same}
-use Rattle.names.proofs.HeldNames.{entry-name, entry-told}
+use Rattle.names.proofs.HeldNames.{entry-name, entry-same}
 use Rattle.quick_words.specs.declared.Figure.{Figure}
 use Rattle.quick_words.specs.Guessed.{FigureStands, GuessedFigure, Packs}
 use Rattle.quick_words.proofs.Packing as Packing
@@ -79,7 +79,12 @@ module _ (s lens highs lows : List ℕ) (at count size h l : ℕ) (a b : Figure)
         event = c;
         move = λ es r.
             let e = getD es k [] in
-            let w : part s from size ≡ e = entry-told r k c (packed .bytes) (sym (length-take-le size (drop from s) d)) (packed .high) (packed .low) m in
-            let q : Spans s from e to = rw w at (spans-part s from size to refl d) in
-            words (entry-name r k c) (f .opening) q (f .behind) (fa .stands ea) (f .between) (fb .stands eb) (f .closing);
+            let w = part s from size in
+            let o : IsName e = entry-name r k c in
+            let (long, high, low) = entry-same r k c m in
+            let i : OneEvent w e = packed .one e o long high low in (
+              w,
+              i,
+              words (one-name w e i o) (f .opening) (spans-part s from size to refl d) (f .behind) (fa .stands ea) (f .between) (fb .stands eb) (f .closing),
+            );
       }
