@@ -13,7 +13,7 @@ use Rattle.model.specs.Refusal.{Checked, refused}
 use Rattle.model.specs.declared.Refusal as D
 use Rattle.model.specs.declared.Refusal.the-variants as C
 use Rattle.model.specs.Cases.{tabled}
-use Rattle.model.specs.Bytes.{Name}
+use Rattle.model.specs.Bytes.{Name, OneEvent}
 use Rattle.model.specs.Reading.{Parsed, fail, got}
 use Rattle.model.specs.Form.{Line, step, stepLine}
 use Rattle.model.specs.Text.{Input, eventNumber, distinct}
@@ -21,7 +21,7 @@ use Rattle.model.proofs.Values.{Named}
 use Rattle.lines.specs.declared.StepWords.{StepWords}
 use Rattle.lines.proofs.Found.{GotStep}
 use Rattle.names.specs.Held.{Finds}
-use Rattle.names.proofs.Lookup.{own-number}
+use Rattle.names.proofs.Lookup.{event-number}
 use Rattle.quick_step_line.specs.Quick.{ReadsStep}
 use Rattle.reader.specs.declared.step_lines.StepAt.{StepAt}
 use Rattle.reader.specs.declared.step_lines.StepAt.the-variants as A
@@ -89,8 +89,11 @@ number : {o : Parsed Line} {w : StepWords} {count x : ℕ} {lens highs lows : Li
 number g f es d = f .number es (d .rows) (g .name) (g .is-name) (g .long) (g .high-is) (g .low-is)
 
 -- the line that is read quickly
-pub quick-line : {s : List ℕ} {at n count : ℕ} {lens highs lows : List ℕ} {a e b next : ℕ} (o : Declares count lens highs lows)
-    → ReadsStep s at n count lens highs lows a e b next → stepLine s at ≡ got (step a (getD (o .names) e []) b) next
+abbrev QuickLine : List ℕ → ℕ → List Name → ℕ → ℕ → ℕ → ℕ → Type 0
+QuickLine s at es a e b next = (w : Name) × OneEvent w (getD es e []) × (stepLine s at ≡ got (step a w b) next)
+
+quick-line : {s : List ℕ} {at n count : ℕ} {lens highs lows : List ℕ} {a e b next : ℕ} (o : Declares count lens highs lows)
+    → ReadsStep s at n count lens highs lows a e b next → QuickLine s at (o .names) a e b next
 quick-line o q = q .line (o .names) (o .held .rows)
 
 -- the answer to one step line
@@ -116,23 +119,28 @@ module _ {s : List ℕ} {at n count : ℕ} {lens highs lows : List ℕ} {k : ℕ
         let (i, j, m) = all-below (w .source) (w .target) n x count h in
         record { name = g .name; line = g .read; room = room; source = i; event = m; target = j; number = number g f }
 
+  pub quick-limit : {a e b next : ℕ} → Declares count lens highs lows → ReadsStep s at n count lens highs lows a e b next → 1024 ≤ k
+      → StepRefused s at n count lens highs lows k (C.LimitExceeded (3 + k))
+  quick-limit o q m = step-limit (quick-line o q .2) m
+
   -- read quickly: of distinct names the event's is the first of its own
   pub step-quick : {a e b next : ℕ} → Declares count lens highs lows → ReadsStep s at n count lens highs lows a e b next → k < 1024
       → StepFound s at n count lens highs lows k a e b next
   step-quick {a} {e} {b} {next} o q room =
-      let line = quick-line o q in
+      let (w, _, line) = quick-line o q in
       record {
-        name = getD (o .names) e [];
+        name = w;
         line = line;
         room = room;
         source = q .source;
         event = q .event;
         target = q .target;
         number = λ es d.
-            let l : _≡_ {A = Parsed Line} (got (step a (getD es e []) b) next) (got (step a (getD (o .names) e []) b) next) = sym (q .line es (d .rows)) ∙ line in
-            let i : getD es e [] ≡ getD (o .names) e [] = cc in
+            let (v, one, again) = q .line es (d .rows) in
+            let l : _≡_ {A = Parsed Line} (got (step a v b) next) (got (step a w b) next) = sym again ∙ line in
+            let i : v ≡ w = cc in
             let t : T (distinct es) = rw (d .once) tt in
-            rw i at (sym (own-number es e (omega (arith, q .event, d .rows .counted)) t));
+            sym (event-number es e (omega (arith, q .event, d .rows .counted)) t w (rw i at one));
       }
 
 -- what is promised of an answer that has found the line

@@ -3,7 +3,7 @@ use denote.Ref.{now}
 use borrow.Author.Needs.{needs}
 use Rattle.quick_step_line.specs.Quick.{ReadsStep, ReadsQuickly}
 use Rattle.reader.specs.Sections.{StepRead}
-use Rattle.reader.proofs.step_lines.StepSection.{quick-line, step-limit, step-quick}
+use Rattle.reader.proofs.step_lines.StepSection.{quick-limit, step-quick}
 use Rattle.reader.proofs.step_lines.step_at.Statement.{statement}
 use Rattle.reader.proofs.step_lines.step_at.Tie as tie
 
@@ -38,7 +38,7 @@ add-t16 c = search needs
 
 returns-2 : tie.Need-returns-2
 unfolding StepRead
-returns-2 c = step-limit (quick-line (start (c .before) .pre .2) (found (c .before))) (c .if1 .taken)
+returns-2 c = quick-limit (start (c .before) .pre .2) (found (c .before)) (c .if1 .taken)
 
 returns-3 : tie.Need-returns-3
 unfolding StepRead
