@@ -15,8 +15,8 @@ use Rattle.model.specs.Sheet.{NamedMove}
 use Rattle.model.specs.Board.{goodEnds, isGoodMove, addName}
 use Rattle.model.proofs.Laws.{T-true, T-false, not-T, and-l, and-r, not-below}
 use Rattle.model.proofs.ListLaws.{store}
-use Rattle.model.proofs.OneEvent.{one-among}
-use Rattle.model.proofs.SheetNames.{apart-snoc, distinct-apart, apart-distinct}
+use Rattle.model.proofs.OneEvent.{one-among, distinct-apart, apart-distinct}
+use Rattle.model.proofs.SheetNames.{apart-snoc}
 use Rattle.lexer.specs.Words as Words
 use Rattle.rows.specs.Rows.{row}
 use Rattle.regions.specs.Moves.{moveAt}

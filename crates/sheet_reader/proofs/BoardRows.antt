@@ -10,7 +10,7 @@ use lib.Dec.{T, eqb, eqb→eq, ltb, ltb→lt, lt→ltb}
 use lib.ListN.{length, getD, set, length-append, length-set}
 use lib.Seq.{getD-set-same, getD-set-other}
 use Rattle.model.specs.Lists.{At, isSome}
-use Rattle.model.specs.Bytes.{Name, OneEvent}
+use Rattle.model.specs.Bytes.{Name, OneEvent, Among}
 use Rattle.model.specs.Text.{eventNumber}
 use Rattle.model.specs.Sheet.{NamedMove, NamedLine, Board}
 use Rattle.model.specs.Board.{isGoodMove, addName, addNames, namesOn, moveOn}
@@ -20,8 +20,8 @@ use Rattle.sheet_reader.specs.BoardRows.{Rows, cell, moveIn, storeMove, 
 use Rattle.model.proofs.Laws.{dec, eqb-of, isSome-none, none-isSome, T-true, contra, and-l, and-r, and-i, cond-true, cond-false}
 use Rattle.model.proofs.Positions.{at-left, at-below, at-mem, at-same, at-middle}
 use Rattle.model.proofs.Sheets.{at-snoc}
-use Rattle.model.proofs.OneEvent.{one-refl, one-sym, one-trans}
-use Rattle.model.proofs.SheetNames.{Apart, names-table, of-moves}
+use Rattle.model.proofs.OneEvent.{one-refl, one-sym, one-trans, Apart}
+use Rattle.model.proofs.SheetNames.{names-table, of-moves}
 use Rattle.model.proofs.SheetMoves.{MoveOnView, moved, stayed, move-on}
 use Rattle.sheet_reader.proofs.LineMoves.{add-names, with, names-last, places, move-old, move-new, Spelt, Looked, old, new, looked}
 
@@ -59,7 +59,7 @@ module _ (b : Board) (t : Rows) (h : TellsBoard b t) where
   unfolding namesOn
   names-apart = subst Apart (sym (h .names)) (names-table [] (flatMap (λ (k : NamedLine). k .moves) b) (λ i j e f a c o. absurd (Option·none-ne-some e a)) .apart)
 
-  pub on-among : (k : ℕ) (l : NamedLine) → At b k l → (w : Name) → OnLine l w → (f : Name) × List·Memᴰ f (t .names) × OneEvent w f
+  pub on-among : (k : ℕ) (l : NamedLine) → At b k l → (w : Name) → OnLine l w → Among w (t .names)
   unfolding namesOn
   on-among k l a w (x, m, o) =
       let v = names-table [] (flatMap (λ (k : NamedLine). k .moves) b) (λ i j e f a c o. absurd (Option·none-ne-some e a)) .has x (of-moves b l x (at-mem b k l a) m) in

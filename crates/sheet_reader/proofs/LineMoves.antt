@@ -91,4 +91,4 @@ looked ns w = go (dec (exists (sameName w) ns))
         old h (getD ns (index (sameName w) ns) [], at-getD ns (index (sameName w) ns) [] h, one-of w (getD ns (index (sameName w) ns) []) (index-passes (sameName w) ns [] t))
         (cond-true (exists (sameName w) ns) ns (ns ++ (w ∷ [])) t)
     go (inr t) =
-        new (index-none (sameName w) ns t) (λ f m o. contra (exists (sameName w) ns) t (among-one w ns f m o)) (cond-false (exists (sameName w) ns) ns (ns ++ (w ∷ [])) t)
+        new (index-none (sameName w) ns t) (λ f m o. contra (exists (sameName w) ns) t (among-one w ns (f, m, o))) (cond-false (exists (sameName w) ns) ns (ns ++ (w ∷ [])) t)

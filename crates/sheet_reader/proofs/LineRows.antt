@@ -18,8 +18,8 @@ use Rattle.model.proofs.Laws.{not-T, and-l, and-r, and-i}
 use Rattle.model.proofs.ListLaws.{map-append, map-mem}
 use Rattle.model.proofs.Positions.{at-left, at-below, mem-at, at-middle, map-at}
 use Rattle.model.proofs.Sheets.{at-snoc}
-use Rattle.model.proofs.OneEvent.{one-sym, one-among}
-use Rattle.model.proofs.SheetNames.{Apart, apart-snoc}
+use Rattle.model.proofs.OneEvent.{one-sym, one-among, Apart}
+use Rattle.model.proofs.SheetNames.{apart-snoc}
 use Rattle.sheet_reader.proofs.LineMoves.{with, names-last, Looked, old, new, looked}
 use Rattle.sheet_reader.proofs.BoardRows.{Follows, Stored, fits, stops, store-step, names-more}
 

@@ -14,7 +14,7 @@ use Rattle.model.specs.Text.{distinct}
 use Rattle.model.specs.Sheet.{NamedMove, NamedLine, Board, moveForm, Head, headForm, lineForm}
 use Rattle.model.specs.Board.{isGoodMove, addNames, namesOn, isGoodLine}
 use Rattle.model.proofs.Laws.{and-l, and-r, and-i}
-use Rattle.model.proofs.SheetNames.{distinct-apart, apart-distinct}
+use Rattle.model.proofs.OneEvent.{distinct-apart, apart-distinct}
 use Rattle.sheet_lines.specs.declared.HeadWords.{HeadWords}
 use Rattle.sheet_lines.specs.declared.HeadAt.{HeadAt}
 use Rattle.sheet_lines.specs.declared.HeadAt.the-variants as H

@@ -8,7 +8,7 @@ use mathlib.Core.List.{List, []}
 use mathlib.Core.Option.{Option, none, some}
 use lib.ListN.{length, getD}
 use Rattle.model.specs.TransitionSystem.{andThen}
-use Rattle.model.specs.Bytes.{Name}
+use Rattle.model.specs.Bytes.{Name, OneEvent}
 use Rattle.model.specs.Reading.{Parsed, fail, got, many}
 use Rattle.model.specs.Text.{eventNumber}
 use Rattle.model.specs.Sheet.{NamedMove, writtenMove, moveForm}
@@ -17,7 +17,7 @@ use Rattle.model.proofs.SheetForms.{MoveFormed, move-sound, move-positive}
 use Rattle.lexer.specs.Words as Words
 use Rattle.lexer.proofs.Loops.{Moves, many-more, many-none}
 use Rattle.lexer.proofs.Moves.{moves-written}
-use Rattle.names.proofs.Lookup.{own-number}
+use Rattle.names.proofs.Lookup.{event-number}
 use Rattle.quick_move.specs.Quick as Quick
 use Rattle.sheet_lines.specs.declared.MoveWords.{MoveWords}
 use Rattle.sheet_lines.specs.declared.MoveAt.{MoveAt}
@@ -105,21 +105,18 @@ module _ {s : List ℕ} {at m n count : ℕ} {t : Lent} where
 
   module _ {k p q next : ℕ} (g : Quick.ReadsMove s at count (t .lens) (t .highs) (t .lows) k p q next) (few : count ≤ 64)
       {r : Bool} {pre post : List ℕ} (a : StoresMove m n k p q (t .pre) (t .post) r pre post) where
-    abbrev event : List Name → Name
-    event ns = getD ns k []
-
     low : k < 64
     low = omega (arith, g .event)
 
-    own : (ns : List Name) → Held ns count t → k ≡ eventNumber ns (event ns)
-    own ns h = sym (own-number ns k (omega (arith, g .event, h .packed .counted)) (h .once))
+    own : (ns : List Name) → Held ns count t → (w : Name) → OneEvent w (getD ns k []) → k ≡ eventNumber ns w
+    own ns h w o = sym (event-number ns k (omega (arith, g .event, h .packed .counted)) (h .once) w o)
 
     pub quick-bad : r ≡ false → (u : Lent) → ReadsMove s at m n count t Bad u
     unfolding MoveLeft countIn
     quick-bad f u =
         record {
           most = omega arith;
-          left = λ ns h. (record { event = event ns; pre = p; post = q }, next, g .move ns (h .packed), store-none a low ns (event ns) (own ns h) f);
+          left = λ ns h. let (w, o, read) = g .move ns (h .packed) in (record { event = w; pre = p; post = q }, next, read, store-none a low ns w (own ns h w o) f);
         }
 
     pub quick-stored : r ≡ true → ReadsMove s at m n count t (Stored count next) (lentRows (t .lens) (t .highs) (t .lows) pre post)
@@ -127,19 +124,21 @@ module _ {s : List ℕ} {at m n count : ℕ} {t : Lent} where
     quick-stored f =
         record {
           most = few;
-          left = λ ns h. (
-            record { event = event ns; pre = p; post = q },
-            record { names = addName ns (event ns); pre = pre; post = post },
-            g .move ns (h .packed),
-            store-some a low ns (event ns) (own ns h) f,
-            record { held = same ns h; pre = refl; post = refl },
-          );
+          left = λ ns h.
+              let (w, o, read) = g .move ns (h .packed) in
+              let k = own ns h w o in (
+                record { event = w; pre = p; post = q },
+                record { names = addName ns w; pre = pre; post = post },
+                read,
+                store-some a low ns w k f,
+                record { held = same ns h w k; pre = refl; post = refl },
+              );
         }
       where
-        same : (ns : List Name) → Held ns count t → Held (addName ns (event ns)) count (lentRows (t .lens) (t .highs) (t .lows) pre post)
-        same ns h =
+        same : (ns : List Name) → Held ns count t → (w : Name) → k ≡ eventNumber ns w → Held (addName ns w) count (lentRows (t .lens) (t .highs) (t .lows) pre post)
+        same ns h w z =
             subst (λ (l : List Name). Held l count (lentRows (t .lens) (t .highs) (t .lows) pre post))
-            (sym (name-known ns (event ns) (omega (arith, own ns h, g .event, h .packed .counted))))
+            (sym (name-known ns w (omega (arith, z, g .event, h .packed .counted))))
             (record { packed = h .packed; once = h .once })
 
 -- ---- the loop
