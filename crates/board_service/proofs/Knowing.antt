@@ -1,14 +1,14 @@
 -- A name by its number in the rows of a sheet: whether it is on a machine, and its moves.
 use Prim.Native.Nat.{ℕ, _<_, _≤_}
 use native.Mathlib.Omega.{arith}
-use mathlib.Core.Path.{_≡_, ap, sym, _∙_, subst}
+use mathlib.Core.Path.{_≡_, sym, _∙_, subst}
 use mathlib.Core.Logic.{_⊎_, inl, inr}
 use mathlib.Core.Bool.{not}
 use mathlib.Core.List.{List, [], List·Memᴰ}
-use mathlib.Core.Option.{Option·none-ne-some}
+use mathlib.Core.Option.{Option·map, Option·none-ne-some}
 use lib.Dec.{T}
 use lib.ListN.{length}
-use Rattle.model.specs.Lists.{At, numbers}
+use Rattle.model.specs.Lists.{At, first, numbers}
 use Rattle.model.specs.Product.{effective}
 use Rattle.model.specs.Bytes.{Name, OneEvent}
 use Rattle.model.specs.Text.{eventNumber}
@@ -18,7 +18,7 @@ use Rattle.model.specs.BoardTable.{OnSheet}
 use Rattle.model.proofs.Laws.{not-T}
 use Rattle.model.proofs.Positions.{at-below, at-mem, mem-at, length-numbers, at-number}
 use Rattle.model.proofs.Together.{SameMoves, same-effective}
-use Rattle.model.proofs.OneEvent.{one-sym}
+use Rattle.model.proofs.OneEvent.{one-refl, one-sym, one-trans, same-test}
 use Rattle.model.proofs.SheetNames.{movesOn, names-table, moves-of}
 use Rattle.model.proofs.SheetMoves.{on-sheet, sheet-on}
 use Rattle.regions.specs.Moves.{moveAt}
@@ -30,7 +30,9 @@ use Rattle.product.specs.Stepping.{IsOn}
 
 -- one event has one move on a machine
 one-move : (l : NamedLine) (e f : Name) → OneEvent e f → moveOn l e ≡ moveOn l f
-one-move l e f o = ap (moveOn l) o
+unfolding moveOn
+one-move l e f o = λ i.
+    Option·map (λ (x : NamedMove). record { pre = x .pre; post = x .post }) (first (λ (x : NamedMove). same-test e f (x .event) o i) (l .moves))
 
 module _ {b : Board} {count : ℕ} {u : Lent} (o : Told b count u) where
   abbrev ns : List Name
@@ -46,14 +48,16 @@ module _ {b : Board} {count : ℕ} {u : Lent} (o : Told b count u) where
     where
       go : List·Memᴰ f [] ⊎ ((x : NamedMove) × List·Memᴰ x (movesOn b) × (f ≡ x .event)) → OnSheet b f
       go (inl i) = elim i [ ]
-      go (inr (x, i, q)) = let (l, j, k) = moves-of b x i in (l, j, (x, k, q))
+      go (inr (x, i, q)) = let (l, j, k) = moves-of b x i in (l, j, (x, k, subst (OneEvent f) q (one-refl f)))
 
   module _ (w : Name) where
     pub on-name : eventNumber ns w < count → T (effective moveOn b w)
     on-name h = go (looked ns w)
       where
         go : Looked ns w → T (effective moveOn b w)
-        go (old a (f, c, p) z) = subst (λ (v : Name). T (effective moveOn b v)) (sym p) (sheet-on b f (named-on f (at-mem ns (eventNumber ns w) f c)))
+        go (old a (f, c, p) z) =
+            let (l, j, (x, k, q)) = named-on f (at-mem ns (eventNumber ns w) f c) in
+            sheet-on b w (l, j, (x, k, one-trans w f (x .event) p q))
         go (new a s z) = absurd (omega (arith, counted))
 
     pub off-name : count ≤ eventNumber ns w → T (not (effective moveOn b w))

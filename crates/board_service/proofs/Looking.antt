@@ -7,20 +7,18 @@ use mathlib.Core.Bool.{Bool, true, _&&_}
 use mathlib.Core.List.{List, [], _∷_, _++_}
 use lib.Dec.{ltb}
 use lib.ListN.{length, getD, drop, length-drop}
-use lib.Seq.{length-take-le}
 use borrow.Author.Tests.{ltb-true}
-use Rattle.model.specs.Bytes.{bytes, isDigit, isLetter, isNameByte, Name}
+use Rattle.model.specs.Bytes.{bytes, isDigit, isLetter, isCapital, isNameByte, Name, OneEvent}
 use Rattle.model.specs.Reading.{fail, got, litBytes, name, part}
-use Rattle.model.specs.Text.{eventNumber}
 use Rattle.model.specs.Sheet.{nameForm}
 use Rattle.model.proofs.Laws.{both}
+use Rattle.model.proofs.OneEvent.{one-name}
 use Rattle.model.proofs.Words.{Spans, spans-part, by, lit-complete, name-complete, name-sound}
 use Rattle.lexer.proofs.Answers.{GotName}
 use Rattle.lexer.proofs.Moves.{moves-literal, moves-name}
-use Rattle.lexer.proofs.Telling.{name-bytes}
 use Rattle.names.specs.Held.{Same, Finds}
-use Rattle.names.proofs.HeldNames.{entry-name, entry-told}
-use Rattle.names.proofs.Lookup.{own-number}
+use Rattle.names.proofs.HeldNames.{entry-name, entry-same, entry-told}
+use Rattle.names.proofs.Lookup.{event-number}
 use Rattle.quick_words.specs.Guessed.{Packs}
 use Rattle.board_service.specs.declared.name_list.QuickName.{QuickName}
 use Rattle.board_service.specs.declared.name_list.QuickName.the-variants.{Verified}
@@ -36,7 +34,7 @@ module _ {count : ℕ} {lens highs lows : List ℕ} {n h l k : ℕ} where
       record {
         most = omega arith;
         number = λ ns p d e w i j o.
-            sym (ap (eventNumber ns) (entry-told p k b (name-bytes e w) i j o s) ∙ own-number ns k (omega (arith, p .counted)) d);
+            sym (event-number ns k (omega (arith, p .counted)) d e (entry-told p k b w i j o s));
       }
 
   pub looks-found : Finds count lens highs lows n h l k → LooksUp count lens highs lows n h l k
@@ -105,7 +103,7 @@ module _ (t : List ℕ) (at : ℕ) where
 module _ (t lens highs lows : List ℕ) (at count size h l k : ℕ) where
   pub verified : at + 17 ≤ length t → size ≤ 16 → Packs t at size h l → (p q : Bool) → (p ≡ true → Spans t (at + size) (10 ∷ []) (at + size + 1))
       → (q ≡ true → Same lens highs lows size h l k) → ((p && q) && ltb k count) ≡ true → KnownName t at count lens highs lows k (at + size + 1)
-  unfolding isNameByte isLetter isDigit
+  unfolding isNameByte isLetter isCapital isDigit
   verified room most packed p q cp cq e =
       let (e1, b) = both (p && q) (ltb k count) e in
       let (ep, eq) = both p q e1 in
@@ -118,15 +116,17 @@ module _ (t lens highs lows : List ℕ) (at count size h l k : ℕ) where
         inside = omega arith;
         numbered = record {
           number = λ ns r o.
-              let w = getD ns k [] in
-              let v : part t at size ≡ w = entry-told r k c (packed .bytes) (sym (length-take-le size (drop at t) d)) (packed .high) (packed .low) (cq eq) in
-              let y : Spans t at w (at + size) = rw v at (spans-part t at size (at + size) refl d) in
+              let w = part t at size in
+              let (long, high, low) = entry-same r k c (cq eq) in
+              let n = entry-name r k c in
+              let v : OneEvent w (getD ns k []) = packed .one (getD ns k []) n long high low in
+              let y : Spans t at w (at + size) = spans-part t at size (at + size) refl d in
               let x : drop at t ≡ w ++ (10 ∷ drop (at + size + 1) t) = y .bytes ∙ ap (λ (i : List ℕ). w ++ i) (z .bytes) in (
                 w,
                 form-ended t at w (at + size) (at + size + 1)
-                    (name-complete w (entry-name r k c) t at (10 ∷ drop (at + size + 1) t) tt x ∙ ap (got w) (sym (y .moved)))
+                    (name-complete w (one-name w (getD ns k []) v n) t at (10 ∷ drop (at + size + 1) t) tt x ∙ ap (got w) (sym (y .moved)))
                     (lit-complete (bytes "\n") t (at + size) (drop (at + size + 1) t) (z .bytes)),
-                sym (own-number ns k (omega (arith, r .counted)) o),
+                sym (event-number ns k (omega (arith, r .counted)) o w v),
               );
         };
       }
