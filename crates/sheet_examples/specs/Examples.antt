@@ -89,7 +89,7 @@ pub record Boards : Type 0 where
   pub blocked-at-start : RunsNames startSheet "b\n" (blocked 0 0) (1 ∷ replicate 15 0)
 
 pub boards : Boards
-unfolding withNames numbers Refuses15 Rewrites RunsNames exists every first index isSome isEmpty flatMap moveFrom both oneMore inAlphabet effective fire fireAll productStep blocker runFrom isDigit isLetter
+unfolding withNames numbers Refuses15 Rewrites RunsNames exists every first index isSome isEmpty flatMap moveFrom both oneMore inAlphabet effective fire fireAll productStep blocker runFrom isDigit isLetter isCapital lower
     isNameByte isFigure isName digits distinct moveBytes writtenMove writtenLine writtenCount writtenSheet countForm moveForm headForm lineForm lend outcomeOf padded ranAnswer isGoodMove addName
     addNames namesOn isGoodLine machineThen machinesFrom countThen readSheet rewrite moveOn startPlaces splitNames runNames boardRun
 boards =
