@@ -1,0 +1,2 @@
+-- Names as the drawings spell them.
+pub mod Examples
