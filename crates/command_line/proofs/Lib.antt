@@ -2,6 +2,8 @@
 
 -- the same bytes, and the service that they say
 pub mod Spelling
+-- one event but for the case
+pub mod Matching
 -- numerals and the numbers that they write
 pub mod Counting
 -- a word that is a name

@@ -29,7 +29,13 @@ pub record AnswersOnY (y : List ℕ) : Type 0 where
   pub named : answerTo (bytes "name" ∷ bytes "brake" ∷ []) y ≡ some (bytes "brake\n")
   pub ran : answerTo (bytes "run" ∷ bytes "ready" ∷ bytes "1" ∷ []) y ≡ some (bytes "(whole (places 1 1))\n")
   pub two-names : answerTo (bytes "name" ∷ bytes "ready" ∷ bytes "brake" ∷ []) y ≡ none
+  -- an event in any case, spelt as the text declares it; a service as it is
+  pub named-in-capitals : answerTo (bytes "name" ∷ bytes "Home" ∷ []) y ≡ some (bytes "home\n")
+  pub ran-in-capitals : answerTo (bytes "run" ∷ bytes "READY" ∷ bytes "bRAKe" ∷ bytes "Home" ∷ bytes "home" ∷ []) y ≡ some (bytes "(blocked 3 0 (places 0 0))\n")
+  pub undeclared : answerTo (bytes "run" ∷ bytes "READY" ∷ bytes "STEADY" ∷ []) y ≡ some (bytes "(refused 14 1 0)\n")
+  pub beside-letters : answerTo (bytes "name" ∷ bytes "HOM@" ∷ []) y ≡ none
   pub capitals : answerTo (bytes "CHECK" ∷ []) y ≡ none
+  pub service-in-capitals : answerTo (bytes "Run" ∷ bytes "ready" ∷ []) y ≡ none
 
 pub answers-on-y : AnswersOnY (bytes (Y ++ Y0 ++ Y1))
 unfolding exists every first index count satisfying isSome isEmpty numbers elem lowest orElse flatMap flatten leads declared transitionRefusal transitionsRefusal
@@ -40,7 +46,20 @@ unfolding exists every first index count satisfying isSome isEmpty numbers elem 
     linesFrom read lineTwo nameAt addMove movesBelow sheetLine sheetLines moveBytes writtenMove writtenLine writtenCount writtenSheet boardOf sheet printedBy fitting spaced printedCheck nameLine
     printedName ranWord placesWord ranLine printedRun asFarAs7 asFarAs10 asFarAs12 name runEvents printed writtenAnswer writtenRefusal serviceSaid isNumeral
     isNameWord numberSaid eventSaid sizeSaid oneEventSaid before eventsSaid namesOf answerBy answerTo
-answers-on-y = record { no-word = refl; short = refl; named = refl; ran = refl; two-names = refl; capitals = refl }
+answers-on-y =
+    record {
+      no-word = refl;
+      short = refl;
+      named = refl;
+      ran = refl;
+      two-names = refl;
+      named-in-capitals = refl;
+      ran-in-capitals = refl;
+      undeclared = refl;
+      beside-letters = refl;
+      capitals = refl;
+      service-in-capitals = refl;
+    }
 
 -- a ring of three states on three machines
 abbrev ring : String
@@ -70,6 +89,7 @@ pub record AnswersOnSheet (y : List ℕ) : Type 0 where
   pub short : answerTo (bytes "sheet" ∷ bytes "144" ∷ []) y ≡ some (bytes "(refused 13 145 0)\n")
   pub ran : answerTo (bytes "board" ∷ bytes "ready" ∷ bytes "brake" ∷ []) y ≡ some (bytes "(whole (places 1 1))\n")
   pub blocked : answerTo (bytes "board" ∷ bytes "ready" ∷ bytes "ready" ∷ []) y ≡ some (bytes "(blocked 1 0 (places 1 0))\n")
+  pub in-capitals : answerTo (bytes "board" ∷ bytes "READY" ∷ bytes "Brake" ∷ []) y ≡ some (bytes "(whole (places 1 1))\n")
   pub no-name : answerTo (bytes "board" ∷ bytes "ready" ∷ bytes "1" ∷ []) y ≡ some (bytes "(refused 14 1 0)\n")
   pub two-sizes : answerTo (bytes "sheet" ∷ bytes "1" ∷ bytes "2" ∷ []) y ≡ none
   -- a text is no sheet
@@ -80,10 +100,10 @@ pub record AnswersOnSheet (y : List ℕ) : Type 0 where
 
 pub answers-on-sheet : AnswersOnSheet (bytes ySheet)
 unfolding exists every first index isSome isEmpty flatMap flatten moveFrom both oneMore inAlphabet effective fire fireAll productStep blocker runFrom isDigit isLetter
-    isNameByte isFigure isName digits numeral numeralUpTo distinct moveBytes writtenMove writtenLine writtenCount writtenSheet countForm moveForm headForm lineForm isGoodMove
+    isCapital lower isNameByte isFigure isName digits numeral numeralUpTo distinct moveBytes writtenMove writtenLine writtenCount writtenSheet countForm moveForm headForm lineForm isGoodMove
     addName addNames namesOn isGoodLine machineThen machinesFrom countThen readSheet moveOn startPlaces splitNames runNames printedBy fitting spaced ranWord placesWord
     ranLine printedSheet printedBoard writtenRefusal serviceSaid isNumeral numberSaid sizeSaid answerBy answerTo
-answers-on-sheet = record { written = refl; short = refl; ran = refl; blocked = refl; no-name = refl; two-sizes = refl; text = refl; text-again = refl; text-short = refl }
+answers-on-sheet = record { written = refl; short = refl; ran = refl; blocked = refl; in-capitals = refl; no-name = refl; two-sizes = refl; text = refl; text-again = refl; text-short = refl }
 
 -- a row of three words, the second empty, the last with no byte 0 behind it
 pub three-words : wordsIn (97 ∷ 98 ∷ 0 ∷ 0 ∷ 99 ∷ []) ≡ (97 ∷ 98 ∷ []) ∷ [] ∷ (99 ∷ []) ∷ []

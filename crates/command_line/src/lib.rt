@@ -6,22 +6,22 @@ ghost use mathlib.Core.Option.{some};
 ghost use Prim.Native.Nat.{ℕ, _≤_, _<_};
 ghost use lib.Dec.{eqb};
 ghost use lib.ListN.{length, drop};
-ghost use Rattle.model.specs.Bytes.{sameName};
 ghost use Rattle.model.specs.BoardTable.{ended};
 ghost use Rattle.model.specs.Text.{eventNumber};
 ghost use Rattle.rows.specs.Names.{namesIn};
-ghost use Rattle.command_line.specs.Words.{sameWord, serviceSaid, isNameWord, said, eventSaid};
+ghost use Rattle.command_line.specs.Words.{serviceSaid, isNameWord, said, eventSaid};
 ghost use Rattle.command_line.specs.WordRow.{wordsIn, EachEnded, WordCut, BeginsAt, Lists};
 ghost use Rattle.command_line.specs.Program.{serviceAsked, furtherWords, sizeSaid, oneEventSaid, eventsSaid};
 ghost use Rattle.command_line.specs.Names.{NameRows};
+use comparing::same_name;
+pub use comparing::same_word;
 use lexer::NameWord;
-use lexer::Word;
-use lexer::read_literal;
 use lexer::read_name;
 pub use numerals::is_numeral;
 pub use numerals::number_said;
 use rows::narrow;
 
+mod comparing; // words and names compared
 mod numerals; // numerals, and the numbers that they write
 
 pub enum Service {
@@ -42,26 +42,6 @@ pub enum Service {
 pub enum Said {
     Neither,
     Number(usize),
-}
-
-// Are the two the same bytes.
-pub fn same_word(a: &[u8], b: &[u8]) -> bool
-    ensures { λ r. ⌜ r ≡ sameWord (now (a .entry)) (now (b .entry)) ⌝ }
-{
-    if a.len() != b.len() {
-        return false;
-    }
-    let Word::Found { value: _, next: _ } = read_literal(a, 0, b) else {
-        return false;
-    };
-    true
-}
-
-// Are the two one event; today the same bytes.
-fn same_name(a: &[u8], b: &[u8]) -> bool
-    ensures { λ r. ⌜ r ≡ sameName (now (a .entry)) (now (b .entry)) ⌝ }
-{
-    same_word(a, b)
 }
 
 fn service_said(word: &[u8]) -> Service

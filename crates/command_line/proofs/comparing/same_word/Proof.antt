@@ -1,11 +1,11 @@
--- `command_line::same_word` meets its contract: each way out is a law of `Spelling`.
+-- `command_line::comparing::same_word` meets its contract: each way out is a law of `Spelling`.
 use Prim.Native.Nat.{ℕ}
 use mathlib.Core.List.{List}
 use borrow.Author.Needs.{needs}
 use denote.Ref.{now}
 use Rattle.command_line.proofs.Spelling.{unequal, unlike, alike}
-use Rattle.command_line.proofs.same_word.Statement.{statement}
-use Rattle.command_line.proofs.same_word.Tie as tie
+use Rattle.command_line.proofs.comparing.same_word.Statement.{statement}
+use Rattle.command_line.proofs.comparing.same_word.Tie as tie
 
 -- the two words
 abbrev one : tie.After-shared-slice-known2 → List ℕ
