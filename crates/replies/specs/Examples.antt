@@ -21,8 +21,12 @@ pub record RepliesToWords : Type 0 where
   pub explained-three : replyAsked (bytes "explain" ∷ bytes "1" ∷ bytes "2" ∷ bytes "3" ∷ bytes "4" ∷ []) ≡ R.Usage 5
   pub unknown : replyAsked (bytes "chek" ∷ bytes "5" ∷ []) ≡ R.Usage 1
   pub unnamed : replyAsked (bytes "name" ∷ []) ≡ R.Usage 2
-  pub no-event : replyAsked (bytes "run" ∷ bytes "ready" ∷ bytes "Brake" ∷ []) ≡ R.Usage 3
-  pub first-of-two : replyAsked (bytes "run" ∷ bytes "Ready" ∷ bytes "Brake" ∷ []) ≡ R.Usage 2
+  pub no-event : replyAsked (bytes "run" ∷ bytes "ready" ∷ bytes "brake_2" ∷ []) ≡ R.Usage 3
+  pub first-of-two : replyAsked (bytes "run" ∷ bytes "Ready@" ∷ bytes "[Brake" ∷ []) ≡ R.Usage 2
+  -- an event may be in capitals, a service or the name of a refusal may not
+  pub in-capitals : replyAsked (bytes "run" ∷ bytes "READY" ∷ bytes "Brake" ∷ []) ≡ R.Service
+  pub unknown-in-capitals : replyAsked (bytes "Run" ∷ bytes "ready" ∷ []) ≡ R.Usage 1
+  pub explained-in-capitals : replyAsked (bytes "explain" ∷ bytes "Open" ∷ []) ≡ R.Usage 2
   pub each-name : map refusalSaid refusalNames ≡ 1 ∷ 2 ∷ 3 ∷ 4 ∷ 5 ∷ 6 ∷ 7 ∷ 8 ∷ 9 ∷ 10 ∷ 11 ∷ 12 ∷ 13 ∷ 14 ∷ 15 ∷ []
   pub no-merge : replyAsked (bytes "merge" ∷ bytes "ready" ∷ []) ≡ R.Usage 2
   pub merged : replyAsked (bytes "merge" ∷ bytes "144" ∷ []) ≡ R.Service
@@ -49,6 +53,9 @@ replies =
       unnamed = refl;
       no-event = refl;
       first-of-two = refl;
+      in-capitals = refl;
+      unknown-in-capitals = refl;
+      explained-in-capitals = refl;
       each-name = refl;
       no-merge = refl;
       merged = refl;
