@@ -57,7 +57,7 @@ fn verified_name<'a>(
     requires { ⌜ at + 17 ≤ length (now names) ⌝ }
     ensures { λ r. ⌜ NameGuessed (now (names .entry)) at count (now («len» .entry)) (now («high» .entry)) (now («low» .entry)) r ⌝ }
 {
-    let size = guess_size(names, at, b'\n');
+    let size = guess_size(names, at);
     let name = pack_name(names, at, size);
     let end = at + size;
     let event = hint(hints, name.high, name.low);

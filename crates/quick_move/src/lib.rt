@@ -78,7 +78,7 @@ fn verified_move<'a>(
     ensures { λ r. ⌜ ReadsQuickly (now (s .entry)) at count (now («len» .entry)) (now («high» .entry)) (now («low» .entry)) r ⌝ }
 {
     let from = at + 7;
-    let size = guess_size(s, from, b' ');
+    let size = guess_size(s, from);
     let name = pack_name(s, from, size);
     let to = from + size;
     let a = short_figure_at(s, to + 1);

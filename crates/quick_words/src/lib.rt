@@ -61,7 +61,7 @@ pub fn little_endian(s: &[u8], at: usize) -> u64
 }
 
 // How many of a word's bytes, from the lowest on, are 0 below the first bit that is 1.
-pub fn low_zero_bytes(word: u64) -> usize
+fn low_zero_bytes(word: u64) -> usize
     ensures { λ r. ⌜ r ≤ 8 ⌝ }
 {
     (u64::trailing_zeros(word) / 8) as usize
@@ -80,24 +80,32 @@ fn swap_bytes(word: u64) -> u64 {
     low | high
 }
 
-// How many of a word's bytes, from the lowest on, stand before a byte b.
-fn count_to(word: u64, b: u8) -> usize
+// How many of a word's bytes, from the lowest on, are guessed to stand before the first below `bound`. Bytes from 128 on may mislead it.
+pub fn count_before(word: u64, bound: u8) -> usize
     ensures { λ r. ⌜ r ≤ 8 ⌝ }
 {
-    // the byte b is 0 in x, the first to borrow
-    let x = word ^ (byte_word(b) * 0x0101_0101_0101_0101);
-    let borrowed = std::num::wrapping_sub_u64(x, 0x0101_0101_0101_0101);
-    low_zero_bytes(borrowed & !x & 0x8080_8080_8080_8080)
+    // a byte below the bound is the first to borrow
+    let less = std::num::wrapping_sub_u64(word, byte_word(bound) * 0x0101_0101_0101_0101);
+    low_zero_bytes(less & 0x8080_8080_8080_8080)
 }
 
-// How many bytes, at most 16, are guessed to stand from a position on before a byte b. Nothing is proved of it but that it stays in range.
-pub fn guess_size(s: &[u8], at: usize, b: u8) -> usize
+// So many bytes of a word of eight; if these are all, as many more.
+pub fn and_on(count: usize, more: usize) -> usize
+    requires { ⌜ (count ≤ 8) × (more ≤ 16) ⌝ }
+    ensures { λ r. ⌜ r ≤ 8 + more ⌝ }
+{
+    if count < 8 { count } else { 8 + more }
+}
+
+// How many bytes, at most 16, a name at a position is guessed to have: those before the first below the hyphen, the lowest of its bytes. Nothing is proved of it but
+// that it stays in range.
+pub fn guess_size(s: &[u8], at: usize) -> usize
     requires { ⌜ at + 16 ≤ length (now s) ⌝ }
     ensures { λ r. ⌜ r ≤ 16 ⌝ }
 {
-    let first = count_to(swap_bytes(big_endian(s, at)), b);
-    let second = count_to(swap_bytes(big_endian(s, at + 8)), b);
-    if first == 8 { 8 + second } else { first }
+    let first = count_before(swap_bytes(big_endian(s, at)), b'-');
+    let second = count_before(swap_bytes(big_endian(s, at + 8)), b'-');
+    and_on(first, second)
 }
 
 // The first bytes of a word of eight.
