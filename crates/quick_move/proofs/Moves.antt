@@ -20,7 +20,7 @@ use Rattle.names.specs.Held.{Same}
 use Rattle.names.proofs.HeldNames.{entry-name, entry-same}
 use Rattle.quick_words.specs.declared.Figure.{Figure}
 use Rattle.quick_words.specs.Guessed.{FigureStands, GuessedFigure, Packs}
-use Rattle.quick_words.proofs.Packing as Packing
+use Rattle.quick_words.proofs.Packing.{told-four}
 use Rattle.quick_move.specs.Quick.{ReadsMove, Framed}
 
 words : {s : List ℕ} {at m1 m2 m3 m4 m5 m6 next a b : ℕ} {w : Name} → IsName w → Spans s at (bytes " (move ") m1 → Spans s m1 w m2
@@ -32,11 +32,21 @@ words {s} {at} {next = next} {a} {b} {w} o p1 p2 p3 p4 p5 p6 p7 =
     let p = then p1 (then p2 (then p3 (then (p4 .spans) (then p5 (then (p6 .spans) p7))))) in
     move-complete x (record { event = o; pre = p4 .most; post = p6 .most }) s at (drop next s) tt (p .bytes) ∙ ap (got x) (sym (p .moved))
 
--- the code's test of the first seven bytes
-pub opening : (s : List ℕ) → ((i : ℕ) → getD s i 0 < 256) → (at v w : ℕ) → at + 8 ≤ length s → w ≡ packed (part s at 8) → v ≡ w / 2 ^ (8 * (8 - 7))
-    → eqb v 9051649741317408 ≡ true → Spans s at (bytes " (move ") (at + 7)
+-- the same bytes, where the position after them is written another way
+ended : {s w : List ℕ} {at j q : ℕ} → j ≡ q → Spans s at w j → Spans s at w q
+ended f h = rw (← f) h
+
+-- the code's tests of the first seven bytes
+pub opening : (s : List ℕ) → ((i : ℕ) → getD s i 0 < 256) → (at v : ℕ) (o p q : Bool) → at + 8 ≤ length s → v ≡ packed (part s at 4)
+    → (o ≡ true → Spans s (at + 4) (bytes "v") (at + 4 + 1)) → (p ≡ true → Spans s (at + 5) (bytes "e") (at + 5 + 1)) → (q ≡ true → Spans s (at + 6) (bytes " ") (at + 6 + 1))
+    → (((eqb v 539520367 && o) && p) && q) ≡ true → Spans s at (bytes " (move ") (at + 7)
 unfolding every
-opening s each at v w b e f t = Packing.opening s each at v w (bytes " (move ") tt (omega arith) b e f (eqb-true v 9051649741317408 t)
+opening s each at v o p q b e co cp cq t =
+    let (t2, tq) = both ((eqb v 539520367 && o) && p) q t in
+    let (t1, tp) = both (eqb v 539520367 && o) p t2 in
+    let (tv, to) = both (eqb v 539520367) o t1 in
+    then (told-four s each at v (bytes " (mo") tt refl (omega arith) e tv)
+    (then (ended (omega arith) (co to)) (then (ended (omega arith) (cp tp)) (ended (omega arith) (cq tq))))
 
 -- the code's tests of the bytes around the words
 pub framed : (s : List ℕ) (at to mid end : ℕ) (o p q r : Bool) → (o ≡ true → Spans s at (bytes " (move ") (at + 7))

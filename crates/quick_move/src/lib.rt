@@ -12,8 +12,7 @@ use names::HINTS;
 use names::hint;
 use names::is_name_at;
 use names::second_hint;
-use quick_words::big_endian;
-use quick_words::first_bytes;
+use quick_words::four_bytes;
 use quick_words::guess_size;
 use quick_words::is_byte;
 use quick_words::pack_name;
@@ -35,7 +34,8 @@ fn is_move(s: &[u8], at: usize) -> bool
     requires { ⌜ at + 8 ≤ length (now s) ⌝ }
     ensures { λ r. ⌜ (r ≡ true → Spans (now (s .entry)) at (bytes " (move ") (at + 7)) ⌝ }
 {
-    first_bytes(big_endian(s, at), 7) == 0x20_286d_6f76_6520
+    let begins = four_bytes(s, at) == 0x2028_6d6f;
+    begins & is_byte(s, at + 4, b'v') & is_byte(s, at + 5, b'e') & is_byte(s, at + 6, b' ')
 }
 
 // The bytes around the words of a move: a space behind the name and behind the first figure, and the bracket behind the second.

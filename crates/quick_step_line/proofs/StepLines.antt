@@ -21,7 +21,7 @@ use Rattle.names.proofs.HeldNames.{entry-name, entry-same}
 use Rattle.quick_words.specs.declared.Figure.{Figure}
 use Rattle.quick_words.specs.Guessed.{FigureStands, GuessedFigure, Packs}
 use Rattle.quick_words.proofs.Standing.{byte}
-use Rattle.quick_words.proofs.Packing as Packing
+use Rattle.quick_words.proofs.Packing.{told-four}
 use Rattle.quick_step_line.specs.Quick.{ReadsStep, NameSize, Framed}
 
 -- the same bytes, where the positions are written another way
@@ -36,12 +36,15 @@ words {s} {at} {next = next} {a} {b} {w} o p1 p2 p3 p4 p5 p6 p7 =
     let p = then p1 (then (p2 .spans) (then p3 (then p4 (then p5 (then (p6 .spans) p7))))) in
     step-complete a w b (p2 .most) o (p6 .most) s at (drop next s) (p .bytes) ∙ ap (got (step a w b)) (sym (p .moved))
 
--- the fixed bytes, by the code's tests of their numbers
+-- the fixed bytes, by the code's tests
 module _ (s : List ℕ) (each : (i : ℕ) → getD s i 0 < 256) (at : ℕ) where
-  pub opening : (v w : ℕ) → at + 8 ≤ length s → w ≡ packed (part s at 8) → v ≡ w / 2 ^ (8 * (8 - 6)) → eqb v 44476339154976 ≡ true
-      → Spans s at (bytes "(step ") (at + 6)
+  pub opening : (v : ℕ) (p q : Bool) → at + 8 ≤ length s → v ≡ packed (part s at 4) → (p ≡ true → Spans s (at + 4) (bytes "p") (at + 4 + 1))
+      → (q ≡ true → Spans s (at + 5) (bytes " ") (at + 5 + 1)) → ((eqb v 678655077 && p) && q) ≡ true → Spans s at (bytes "(step ") (at + 6)
   unfolding every
-  opening v w b e f t = Packing.opening s each at v w (bytes "(step ") tt (omega arith) b e f (eqb-true v 44476339154976 t)
+  opening v p q b e cp cq t =
+      let (t1, tq) = both (eqb v 678655077 && p) q t in
+      let (tv, tp) = both (eqb v 678655077) p t1 in
+      then (told-four s each at v (bytes "(ste") tt refl (omega arith) e tv) (then (moved refl (omega arith) (cp tp)) (moved refl (omega arith) (cq tq)))
 
   pub closing : at + 2 ≤ length s → {w : ℕ} → w ≡ getD s at 0 * 256 + getD s (at + 1) 0 → eqb w 10506 ≡ true
       → Spans s at (bytes ")\n") (at + 2)

@@ -11,10 +11,9 @@ use model::MAX_EVENTS;
 use names::HINTS;
 use names::hint;
 use names::is_name_at;
-use quick_words::big_endian;
 use quick_words::figure_at;
 use quick_words::figure_before;
-use quick_words::first_bytes;
+use quick_words::four_bytes;
 use quick_words::is_byte;
 use quick_words::pack_name;
 use quick_words::pack_two;
@@ -32,6 +31,7 @@ pub enum QuickStep {
     },
 }
 
+// The bracket and byte 10 stand at a position.
 fn is_end(s: &[u8], at: usize) -> bool
     requires { ⌜ at + 2 ≤ length (now s) ⌝ }
     ensures { λ r. ⌜ (r ≡ true → Spans (now (s .entry)) at (bytes ")\n") (at + 2)) ⌝ }
@@ -44,7 +44,7 @@ fn is_step(s: &[u8], at: usize) -> bool
     requires { ⌜ at + 8 ≤ length (now s) ⌝ }
     ensures { λ r. ⌜ (r ≡ true → Spans (now (s .entry)) at (bytes "(step ") (at + 6)) ⌝ }
 {
-    first_bytes(big_endian(s, at), 6) == 0x2873_7465_7020
+    (four_bytes(s, at) == 0x2873_7465) & is_byte(s, at + 4, b'p') & is_byte(s, at + 5, b' ')
 }
 
 // The bytes around the words of a step line: its name lies from one position to another, and byte 10 at `end`.

@@ -5,10 +5,12 @@ use native.Mathlib.Numerals.{add-one}
 use native.Mathlib.Omega.{arith}
 use mathlib.Core.Path.{_≡_, refl, ap, sym, _∙_}
 use mathlib.Core.Logic.{_⊎_, inl, inr}
+use mathlib.Core.Bool.{true}
 use mathlib.Core.List.{List, [], _∷_, _++_, map, List·Memᴰ·head, List·Memᴰ·tail}
-use lib.Dec.{T, ltb, ltb→lt}
+use lib.Dec.{T, ltb, ltb→lt, eqb}
 use lib.ListN.{length, getD, take, drop, length-take, length-drop, length-map, take-append-drop, drop-of-length-le}
 use lib.Pow.{pow-add, high}
+use borrow.Author.Tests.{eqb-true}
 use lib.Seq.{drop-cons, take-all, take-take, take-add, drop-drop, drop-at, length-take-le}
 use Rattle.model.specs.Bytes.{bytes, lower}
 use Rattle.model.specs.Lists.{every}
@@ -95,6 +97,17 @@ module _ (s : List ℕ) where
       )
       (omega arith)
 
+  -- the four bytes at a position
+  pub four : (at r : ℕ) → at + 4 ≤ length s → r ≡ ((getD s at 0 * 256 + getD s (at + 1) 0) * 256 + getD s (at + 2) 0) * 256 + getD s (at + 3) 0 → r ≡ packed (part s at 4)
+  four at r b p =
+      rw (
+        head 3 at (at + 1) refl (omega arith),
+        head 2 (at + 1) (at + 2) (omega arith) (omega arith),
+        head 1 (at + 2) (at + 3) (omega arith) (omega arith),
+        head 0 (at + 3) (at + 4) (omega arith) (omega arith),
+      )
+      (omega arith)
+
   eight-long : (at : ℕ) → at + 8 ≤ length s → length (part s at 8) ≡ 8
   eight-long at h = length-take-le 8 (drop at s) (omega (arith, length-drop at s))
 
@@ -119,11 +132,11 @@ module _ (s : List ℕ) where
         (rw (drop-of-length-le (part s at (length w)) {i = 8} (omega arith), drop-of-length-le w {i = 8} l) refl) in
         rw q at (spans-part s at (length w) (at + length w) refl d)
 
-    -- the same by the number of the first bytes of a word of eight
-    pub opening : (at v x : ℕ) (w : List ℕ) → T (every (λ b. ltb b 256) w) → length w ≤ 8 → at + 8 ≤ length s → x ≡ packed (part s at 8)
-        → v ≡ x / 2 ^ (8 * (8 - length w)) → v ≡ packed w → Spans s at w (at + length w)
-    opening at v x w t l b e f g =
-        told-word at w t l (omega arith) (sym (word at (length w) b l) ∙ ap (λ (y : ℕ). y / 2 ^ (8 * (8 - length w))) (sym e) ∙ sym f ∙ g)
+    -- four bytes, by the code's test of their number
+    pub told-four : (at v : ℕ) (w : List ℕ) → T (every (λ b. ltb b 256) w) → length w ≡ 4 → at + 4 ≤ length s → v ≡ packed (part s at 4) → eqb v (packed w) ≡ true
+        → Spans s at w (at + 4)
+    told-four at v w t l b e q =
+        rw (← l) (told-word at w t (omega arith) (omega arith) (ap (λ (n : ℕ). packed (part s at n)) l ∙ sym e ∙ eqb-true v (packed w) q))
 
     -- the first k of the eight bytes at a position, folded
     folded-word : (at k : ℕ) {x : ℕ} → at + 8 ≤ length s → k ≤ 8 → x ≡ packed (map fold (part s at 8)) → x / 2 ^ (8 * (8 - k)) ≡ packed (map fold (part s at k))

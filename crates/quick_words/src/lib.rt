@@ -43,6 +43,14 @@ fn pack_four(a: u8, b: u8, c: u8, d: u8) -> u64
     append_four(0, a, b, c, d)
 }
 
+// The four bytes at a position as a number in base 256.
+pub fn four_bytes(s: &[u8], at: usize) -> u64
+    requires { ⌜ at + 4 ≤ length (now s) ⌝ }
+    ensures { λ r. ⌜ r ≡ packed (part (now (s .entry)) at 4) ⌝ }
+{
+    pack_four(s[at], s[at + 1], s[at + 2], s[at + 3])
+}
+
 // The eight bytes at a position as a number in base 256.
 pub fn big_endian(s: &[u8], at: usize) -> u64
     requires { ⌜ at + 8 ≤ length (now s) ⌝ }
@@ -109,7 +117,7 @@ pub fn guess_size(s: &[u8], at: usize) -> usize
 }
 
 // The first bytes of a word of eight.
-pub fn first_bytes(word: u64, count: usize) -> u64
+fn first_bytes(word: u64, count: usize) -> u64
     requires { ⌜ count ≤ 8 ⌝ }
     ensures { λ r. ⌜ r ≡ word / 2 ^ (8 * (8 - count)) ⌝ }
 {
