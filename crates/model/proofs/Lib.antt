@@ -72,5 +72,8 @@ pub mod Merging
 pub mod MergeResult
 pub mod MergedText
 pub mod Merges
--- spelling: names that are one event, in other words, and texts respelt
+-- spelling: sheets respelt; names that are one event in other words, and texts respelt; a text and a sheet that are
+pub mod SheetsAlike
+pub mod SheetSpellings
 pub mod Spellings
+pub mod Respelt

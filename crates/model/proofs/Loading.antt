@@ -39,7 +39,7 @@ got-same o x y m n p q = cc
 fail-got : {A : Type 0} (o : Parsed A) (x : A) (m : ℕ) → o ≡ fail → o ≡ got x m → ⊥
 fail-got o x m p q = let z : _≡_ {A = ℕ} 0 1 = cc in omega arith
 
-next-view : (s : List ℕ) (n : ℕ) (b : Board) (at : ℕ) → at ≤ length s → length b < n → BeginsSheet s n b (drop at s) → Next s n b at
+pub next-view : (s : List ℕ) (n : ℕ) (b : Board) (at : ℕ) → at ≤ length s → length b < n → BeginsSheet s n b (drop at s) → Next s n b at
 unfolding machineThen
 next-view s n b at h few o = go (lineForm s at) refl
   where

@@ -12,7 +12,7 @@ use Rattle.model.specs.Lists.{At, Pairwise, exists}
 use Rattle.model.specs.Bytes.{isCapital, Letter, Digit, Name, IsName, lower, OneEvent, Among, sameName}
 use Rattle.model.specs.Text.{distinct}
 use Rattle.model.specs.Table.{DeclaredTwice}
-use Rattle.model.specs.Spelling.{SmallOf, OtherCase}
+use Rattle.model.specs.Spelling.{SmallOf, SameButCase}
 use Rattle.model.proofs.Laws.{dec, T-true, T-false, cond-true, cond-false, exists-intro, exists-elim, eqb-of, and-l, and-r, and-i, and-not, not-not, not-T, contra, order}
 use Rattle.model.proofs.Positions.{at-mem, mem-at}
 
@@ -39,10 +39,10 @@ lowered b = go (dec (leb 65 b && leb b 90))
         (outside (λ w. contra (leb 65 b && leb b 90) t (and-i (leb 65 b) (leb b 90) (le→leb 65 b (w .0)) (le→leb b 90 (w .1)))) (order b 65) (order 90 b))
         (cond-false (leb 65 b && leb b 90) (b + 32) b t)
 
-pub case-of : (a b : ℕ) → lower a ≡ lower b → OtherCase a b
+pub case-of : (a b : ℕ) → lower a ≡ lower b → SameButCase a b
 case-of a b q = go (lowered a) (lowered b)
   where
-    go : Lowered a → Lowered b → OtherCase a b
+    go : Lowered a → Lowered b → SameButCase a b
     go (capital x y e) (capital v w f) = inl (omega arith)
     go (capital x y e) (other v f) = inr (inl (record { least = x; most = y; small = sym f ∙ sym q ∙ e }))
     go (other x e) (capital v w f) = inr (inr (record { least = v; most = w; small = sym e ∙ q ∙ f }))
@@ -57,14 +57,14 @@ small-lower a b s = go (lowered a) (lowered b)
     go (other (inl x) e) l = absurd (omega (arith, s .least))
     go (other (inr x) e) l = absurd (omega (arith, s .most))
 
-pub of-case : (a b : ℕ) → OtherCase a b → lower a ≡ lower b
+pub of-case : (a b : ℕ) → SameButCase a b → lower a ≡ lower b
 of-case a b (inl q) = ap lower q
 of-case a b (inr (inl s)) = small-lower a b s
 of-case a b (inr (inr s)) = sym (small-lower b a s)
 
 -- ---- names, byte by byte
 
-pub one-case : (e f : Name) → OneEvent e f → Pairwise OtherCase e f
+pub one-case : (e f : Name) → OneEvent e f → Pairwise SameButCase e f
 one-case [] [] p = tt
 one-case [] (b ∷ f) p = let z : _≡_ {A = ℕ} 0 1 = cc in absurd (omega arith)
 one-case (a ∷ e) [] p = let z : _≡_ {A = ℕ} 0 1 = cc in absurd (omega arith)
@@ -73,7 +73,7 @@ one-case (a ∷ e) (b ∷ f) p =
     let y : map lower e ≡ map lower f = cc in
     (case-of a b x, one-case e f y)
 
-pub case-one : (e f : Name) → Pairwise OtherCase e f → OneEvent e f
+pub case-one : (e f : Name) → Pairwise SameButCase e f → OneEvent e f
 case-one [] [] p = refl
 case-one [] (b ∷ f) p = absurd p
 case-one (a ∷ e) [] p = absurd p
@@ -120,27 +120,37 @@ same-test e f x o = go (dec (sameName f x))
         T-false (sameName e x) (not-T (sameName e x) (λ u. contra (sameName f x) t (of-one f x (one-trans f e x (one-sym e f o) (one-of e x u)))))
         ∙ sym (T-false (sameName f x) t)
 
+sym-test : (e f : Name) → sameName e f ≡ sameName f e
+sym-test e f = go (dec (sameName f e))
+  where
+    go : T (sameName f e) ⊎ T (not (sameName f e)) → sameName e f ≡ sameName f e
+    go (inl t) = T-true (sameName e f) (of-one e f (one-sym f e (one-of f e t))) ∙ sym (T-true (sameName f e) t)
+    go (inr t) = T-false (sameName e f) (not-T (sameName e f) (λ u. contra (sameName f e) t (of-one f e (one-sym e f (one-of e f u))))) ∙ sym (T-false (sameName f e) t)
+
+pub both-test : (e f x y : Name) → OneEvent e f → OneEvent x y → sameName e x ≡ sameName f y
+both-test e f x y o p = same-test e f x o ∙ sym-test f x ∙ same-test x y f p ∙ sym-test y f
+
 pub one-length : (e f : Name) → OneEvent e f → length e ≡ length f
 one-length e f p = sym (length-map e lower) ∙ ap length p ∙ length-map f lower
 
 -- ---- what is one event with a name is a name
 
-letter-case : (a b : ℕ) → OtherCase a b → Letter b → Letter a
+letter-case : (a b : ℕ) → SameButCase a b → Letter b → Letter a
 letter-case a b (inl q) l = subst Letter (sym q) l
 letter-case a b (inr (inl s)) l = inr (s .least, s .most)
 letter-case a b (inr (inr s)) l = inl (omega (arith, s .least, s .small), omega (arith, s .most, s .small))
 
-pub stays : (a b : ℕ) → OtherCase a b → ¬ Letter a → a ≡ b
+pub stays : (a b : ℕ) → SameButCase a b → ¬ Letter a → a ≡ b
 stays a b (inl q) n = q
 stays a b (inr (inl s)) n = absurd (n (inr (s .least, s .most)))
 stays a b (inr (inr s)) n = absurd (n (letter-case a b (inr (inr s)) (inr (s .least, s .most))))
 
-byte-case : (a b : ℕ) → OtherCase a b → Letter b ⊎ (Digit b ⊎ (b ≡ 45)) → Letter a ⊎ (Digit a ⊎ (a ≡ 45))
+byte-case : (a b : ℕ) → SameButCase a b → Letter b ⊎ (Digit b ⊎ (b ≡ 45)) → Letter a ⊎ (Digit a ⊎ (a ≡ 45))
 byte-case a b (inl q) l = subst (λ (x : ℕ). Letter x ⊎ (Digit x ⊎ (x ≡ 45))) (sym q) l
 byte-case a b (inr (inl s)) l = inl (inr (s .least, s .most))
 byte-case a b (inr (inr s)) l = inl (letter-case a b (inr (inr s)) (inr (s .least, s .most)))
 
-each-case : (P : ℕ → Type 0) → ((a b : ℕ) → OtherCase a b → P b → P a) → (e f : Name) → Pairwise OtherCase e f → ((b : ℕ) → List·Memᴰ b f → P b)
+each-case : (P : ℕ → Type 0) → ((a b : ℕ) → SameButCase a b → P b → P a) → (e f : Name) → Pairwise SameButCase e f → ((b : ℕ) → List·Memᴰ b f → P b)
     → (a : ℕ) → List·Memᴰ a e → P a
 each-case P h [] f p n a m = elim m [ ]
 each-case P h (x ∷ e) [] p n a m = absurd p
@@ -156,7 +166,7 @@ one-name e f o n =
       each = each-case (λ b. Letter b ⊎ (Digit b ⊎ (b ≡ 45))) byte-case e f (one-case e f o) (n .each);
     }
   where
-    first : (e f : Name) → Pairwise OtherCase e f → 1 ≤ length f → Letter (getD f 0 0) → Letter (getD e 0 0)
+    first : (e f : Name) → Pairwise SameButCase e f → 1 ≤ length f → Letter (getD f 0 0) → Letter (getD e 0 0)
     first e [] p h l = absurd (omega arith)
     first [] (y ∷ f) p h l = absurd p
     first (x ∷ e) (y ∷ f) p h l = letter-case x y (p .0) l

@@ -13,10 +13,10 @@ use Rattle.model.specs.Bytes.{Name, Letter}
 use Rattle.model.specs.Form.{Line, states, events, step, machine, written, Respelt}
 use Rattle.model.specs.Text.{read, lineTwo, nameAt}
 use Rattle.model.specs.Services.{asFarAs7, asFarAs10, asFarAs12, check, printed, steps, name, nameRefusal, run, thin, merge}
-use Rattle.model.specs.Spelling.{OtherCase, OneEventLaws, RespeltText, Respelling}
+use Rattle.model.specs.Spelling.{SameButCase, OneEventLaws, RespeltText, AnsweredAlike}
 use Rattle.model.proofs.Laws.{order, T-false, not-T}
 use Rattle.model.proofs.LineEnds.{line-two}
-use Rattle.model.proofs.OneEvent.{one-case, case-one, one-of, of-one, one-refl, one-sym, one-trans, stays}
+use Rattle.model.proofs.OneEvent.{one-case, case-one, one-of, of-one, one-refl, one-sym, one-trans, one-name, stays}
 use Rattle.model.proofs.Chains.{Each, Proper, Begun, begun}
 use Rattle.model.proofs.Texts.{respelt-bytes}
 use Rattle.model.proofs.Alike.{respelt-alike}
@@ -24,7 +24,7 @@ use Rattle.model.proofs.AlikeTexts.{alike-read}
 
 -- ---- names
 
-stays-at : (e f : Name) → Pairwise OtherCase e f → (i b : ℕ) → ¬ Letter b → At e i b → At f i b
+stays-at : (e f : Name) → Pairwise SameButCase e f → (i b : ℕ) → ¬ Letter b → At e i b → At f i b
 stays-at [] f p i b n a = absurd (Option·none-ne-some b a)
 stays-at (x ∷ e) [] p i b n a = absurd p
 stays-at (x ∷ e) (y ∷ f) p zero b n a =
@@ -36,6 +36,7 @@ pub one-event-holds : (e f : Name) → OneEventLaws e f
 one-event-holds e f =
     record {
       only-case = (one-case e f, case-one e f);
+      name = one-name e f;
       others-stay = λ o. stays-at e f (one-case e f o);
       reflexive = one-refl e;
       symmetric = one-sym e f;
@@ -109,7 +110,7 @@ module _ (s t : List ℕ) (r : RespeltText s t) where
   unfolding name nameAt
   same-name e = rw (same-7, same-line-two) refl
 
-  pub respelling-holds : Respelling s t
+  pub respelling-holds : AnsweredAlike s t
   unfolding check printed steps nameRefusal run thin merge
   respelling-holds =
       record {
