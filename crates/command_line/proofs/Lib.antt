@@ -22,3 +22,5 @@ pub mod Ending
 pub mod Taking
 -- a good sheet is written again
 pub mod Restoring
+-- an EVENT in any case
+pub mod AnyCase

@@ -72,7 +72,7 @@ by-lines g h [] (k ∷ ks) p = absurd p
 by-lines g h (l ∷ ls) [] p = absurd p
 by-lines g h (l ∷ ls) (k ∷ ks) p = h l k ls ks (p .0) (by-lines g h ls ks (p .1))
 
-same-number : (es : List Name) (e f : Name) → OneEvent e f → eventNumber es e ≡ eventNumber es f
+pub same-number : (es : List Name) (e f : Name) → OneEvent e f → eventNumber es e ≡ eventNumber es f
 unfolding eventNumber index
 same-number [] e f o = refl
 same-number (x ∷ es) e f o = rw (same-number es e f o) (ap (λ (b : Bool). cond b 0 (suc (eventNumber es f))) (same-test e f x o))

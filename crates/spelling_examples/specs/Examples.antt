@@ -18,7 +18,7 @@ use Rattle.model.specs.Sheet.{addMove, movesBelow, sheetLine, sheetLines, moveB
 use Rattle.model.specs.Merging.{removed, mergePlaces, mergeMachine, mergeIn, placeCount, mergeable, partner, lowerPlace, mergeWith, mergeLower, mergeFirst, mergeTimes, mergedBelow, merged, mergedInput}
 use Rattle.model.specs.Services.{asFarAs7, asFarAs10, asFarAs12, lend, check, steps, name, whole, blocked, refusedBy, outcomeOf, padded, ranAnswer, runEvents, run, keptOf, thin, merge, writtenRefusal}
 use Rattle.model.specs.Board.{isGoodMove, addName, addNames, namesOn, isGoodLine, machineThen, machinesFrom, countThen, readSheet, rewrite, moveOn, startPlaces, splitNames, runNames, boardRun}
-use Rattle.model.specs.Printed.{printedBy, nameLine, printedName}
+use Rattle.model.specs.Printed.{printedBy, fitting, printedCheck, nameLine, printedName, printedMerge}
 use Rattle.model.specs.Examples.{Y0, Y1, Writes, Refuses, Runs, Keeps}
 use Rattle.sheet_examples.specs.Examples.{ySheet, Refuses15, Rewrites, RunsNames, withNames}
 
@@ -78,6 +78,8 @@ pub record SpeltTexts : Type 0 where
   -- a name is handed back where it is declared, as it is spelt there
   pub named : name (bytes (declaring "Ready BRAKE home")) 1 ≡ passed (record { from = 25; size = 5 })
   pub name-printed : printedName (bytes (declaring "Ready BRAKE home")) 1 ≡ bytes "BRAKE\n"
+  pub check-printed : printedCheck (bytes (declaring "Ready BRAKE home")) 145 ≡ bytes (sheetOf "Ready" "BRAKE" "home")
+  pub merge-printed : printedMerge (bytes (declaring "Ready BRAKE home")) 145 ≡ bytes (sheetOf "Ready" "BRAKE" "home")
   -- "Declaring both is 3."
   pub declared-twice : Refuses (declaring "READY Ready") (refuse 3 2 0)
   pub declared-twice-apart : Refuses (declaring "ready brake home readY") (refuse 3 2 0)
@@ -121,7 +123,7 @@ unfolding Writes Refuses Runs Keeps exists every first index count satisfying is
     isCapital lower isNameByte isFigure isName digits isMachineLine isStepLine startGiven statesLine spacedName eventsLine stepLine spacedFigure place machineLine lineAfter eventNumber valueOf distinct
     inLimit isDeclared ended lineThen linesFrom read asFarAs7 asFarAs10 asFarAs12 lend addMove movesBelow sheetLine sheetLines moveBytes writtenMove writtenLine writtenCount writtenSheet boardOf sheet
     check steps blocker oneMore runFrom outcomeOf padded ranAnswer runEvents run keptOf thin removed mergePlaces mergeMachine mergeIn placeCount mergeable partner lowerPlace mergeWith mergeLower mergeFirst
-    mergeTimes mergedBelow merged mergedInput merge name lineTwo nameAt writtenRefusal numeral numeralUpTo printedBy nameLine printedName
+    mergeTimes mergedBelow merged mergedInput merge name lineTwo nameAt writtenRefusal numeral numeralUpTo printedBy fitting printedCheck nameLine printedName printedMerge
 spelt-texts =
     record {
       as-declared = refl;
@@ -134,6 +136,8 @@ spelt-texts =
       thinned = refl;
       named = refl;
       name-printed = refl;
+      check-printed = refl;
+      merge-printed = refl;
       declared-twice = refl;
       declared-twice-apart = refl;
       undeclared = refl;
