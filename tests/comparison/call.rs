@@ -58,8 +58,8 @@ pub fn board(list: impl Into<Vec<u8>>) -> Call {
 }
 
 fn is_name(word: &str) -> bool {
-    let inner = |b: u8| b.is_ascii_lowercase() || b.is_ascii_digit() || b == b'-';
-    (1..=16).contains(&word.len()) && word.starts_with(|c: char| c.is_ascii_lowercase()) && word.bytes().all(inner)
+    let inner = |b: u8| b.is_ascii_alphanumeric() || b == b'-';
+    (1..=16).contains(&word.len()) && word.starts_with(|c: char| c.is_ascii_alphabetic()) && word.bytes().all(inner)
 }
 
 /// The names of line 2; none if it is not what it should be.
@@ -114,7 +114,7 @@ impl Call {
         let names = names(text);
         let number = |word: &String| match word.as_bytes()[0] {
             b'0'..=b'9' => word.parse().unwrap_or(usize::MAX),
-            _ => names.iter().position(|name| name == word).unwrap_or(usize::MAX),
+            _ => names.iter().position(|name| name.eq_ignore_ascii_case(word)).unwrap_or(usize::MAX),
         };
         self.arguments().iter().map(number).collect()
     }

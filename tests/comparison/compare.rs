@@ -6,6 +6,7 @@ use answer::Told;
 use call::{Call, Task};
 use program::Program;
 use report::Report;
+use spelt::Spelling;
 use starts::Start;
 use std::sync::mpsc::{sync_channel, Receiver};
 use std::sync::Mutex;
@@ -27,6 +28,7 @@ mod fixed;
 mod forms;
 mod generated;
 mod lent;
+mod letters;
 mod library;
 mod limits;
 mod machines;
@@ -36,6 +38,7 @@ mod products;
 mod program;
 mod redundant;
 mod report;
+mod spelt;
 #[path = "../../include/split.rs"]
 mod split;
 mod starts;
@@ -49,7 +52,7 @@ mod words;
 mod written;
 
 /// How many requests of document 02 are in force.
-const RULES: reference::Rules = reference::Rules(4);
+const RULES: reference::Rules = reference::Rules(5);
 
 /// A process for each call is what takes the time, and there is a wait in each.
 const WORKERS: usize = 4;
@@ -110,8 +113,10 @@ fn ask(task: &Task, text: &[u8], call: &Call, program: &Program, watchdog: &Watc
 
 fn compare_on_sheet(task: &Task, program: &Program, watchdog: &Watchdog, report: &Report) {
     let sheet = task.text();
+    let spelling = boards::spelt::Spelling::of(&sheet);
     for call in &task.calls {
         let asked = ask(task, &sheet, call, program, watchdog, report);
+        report.telling(&spelling.telling(&sheet, call, &asked.told));
         report.telling(&boards::telling::of(&sheet, call, &asked.told));
     }
 }
@@ -145,6 +150,7 @@ fn compare(task: &Task, program: &Program, watchdog: &Watchdog, report: &Report)
     }
     let text = task.text();
     let start = Start::of(&text);
+    let spelling = Spelling::of(&text);
     let (mut printed, mut split, mut class) = (Printed::default(), None, 0);
     let mut accepted = Accepted::default();
     for (k, call) in task.calls.iter().enumerate() {
@@ -158,6 +164,7 @@ fn compare(task: &Task, program: &Program, watchdog: &Watchdog, report: &Report)
         if let Some(split) = &mut split {
             report.telling(&split.of(call.service(), &call.numbers(&text), &asked.told));
         }
+        report.telling(&spelling.telling(&text, call, &asked.told));
         if let Some(start) = &start {
             report.telling(&start.telling(&asked.expected));
         }
@@ -167,7 +174,7 @@ fn compare(task: &Task, program: &Program, watchdog: &Watchdog, report: &Report)
     if class == 0 {
         accepted.on_boards(&text).iter().for_each(|task| compare_on_sheet(task, program, watchdog, report));
     }
-    if [0, 11, 12].contains(&class) && report.is_first(&text) {
+    if [0, 11, 12].contains(&class) && !task.calls[0].unsaid && report.is_first(&text) {
         let walked = match class {
             0 => printed.walked(&text),
             _ => walking::refused(&text),

@@ -7,7 +7,7 @@ fn crowds() -> Vec<String> {
     let mut texts = Vec::new();
     for n in [0, 1, 62, 63, 64, 65] {
         let names: String = (0..n).map(|k| format!(" e{k}")).collect();
-        for last in ["", " e0", " E", " e0 e0", " e0 E"] {
+        for last in ["", " e0", " 0e", " e0 e0", " e0 0e", " E", " E0"] {
             texts.push(format!("(states 1)\n(events{names}{last})\n(machine (0))\n"));
         }
         let places: String = (0..n).map(|k| format!(" ({k})")).collect();

@@ -5,7 +5,7 @@ use crate::products::product;
 
 type Defect = fn(&mut Dice, &mut Draft);
 
-pub const DEFECTS: [Defect; 15] = [
+pub const DEFECTS: [Defect; 16] = [
     state_moved,
     state_doubled,
     state_missing,
@@ -14,6 +14,7 @@ pub const DEFECTS: [Defect; 15] = [
     step_forked,
     step_standing,
     event_idle,
+    event_again,
     state_unreached,
     start_moved,
     start_strange,
@@ -101,6 +102,12 @@ fn event_idle(dice: &mut Dice, draft: &mut Draft) {
     dice.insert(&mut draft.events, "idle".to_string());
 }
 
+/// In another case, if names are spelt so.
+fn event_again(dice: &mut Dice, draft: &mut Draft) {
+    let again = dice.one(&draft.events);
+    dice.insert(&mut draft.events, again);
+}
+
 /// A state more, in a place of every machine, with a step to one of the others. It is the highest or state 0.
 fn state_unreached(dice: &mut Dice, draft: &mut Draft) {
     let state = draft.states;
@@ -154,7 +161,7 @@ fn name_damaged(dice: &mut Dice, draft: &mut Draft) {
     let declared = dice.once_in(2);
     let name = if declared { &mut draft.events[event] } else { &mut draft.steps[step].1 };
     let damaged = [
-        name.to_uppercase(),
+        name.to_uppercase().replace('A', "@"),
         format!("{name:x<17}"),
         name.chars().skip(1).collect(),
         format!("-{name}"),

@@ -5,6 +5,7 @@ use crate::damage::damaged;
 use crate::defects::{roomy, DEFECTS};
 use crate::dice::Dice;
 use crate::draft::Draft;
+use crate::letters::{self, Stands};
 use crate::products::product;
 use crate::subject::Subject;
 use crate::tiny::{loose, tiny};
@@ -31,14 +32,24 @@ impl From<Draft> for Made {
     }
 }
 
+impl Made {
+    /// With names in other cases; the sheet has those of the line of events.
+    fn respelt(mut self, dice: &mut Dice) -> Made {
+        letters::respell_text(dice, &mut self.text);
+        self.sheet = self.sheet.map(|sheet| letters::as_declared(&self.text, &sheet));
+        self
+    }
+}
+
 /// The kind of text, how often it is made among all, and how.
-const MAKERS: [(&str, usize, fn(&mut Dice) -> Made); 10] = [
+const MAKERS: [(&str, usize, fn(&mut Dice) -> Made); 11] = [
     ("product", 12, a_product),
     ("watched product", 8, a_watched_product),
     ("redundant machines", 24, with_redundant_machines),
     ("one defect", 50, |dice| with_defects(dice, 1)),
     ("two defects", 16, |dice| with_defects(dice, 2)),
     ("tiny system", 40, |dice| tiny(dice).into()),
+    ("byte taken for another", 10, with_confused_byte),
     ("damaged", 20, |dice| Made { text: damaged(dice), sheet: None }),
     ("loose lines", 16, |dice| loose(dice).into()),
     ("crowd", 12, |dice| crowd(dice).into()),
@@ -70,11 +81,20 @@ fn with_defects(dice: &mut Dice, count: usize) -> Made {
     draft.into()
 }
 
+/// In a name: where it is declared or in a step, early or late.
+fn with_confused_byte(dice: &mut Dice) -> Made {
+    let mut text = product(dice, 8, false).drawn(dice).0.text().into_bytes();
+    let so = dice.one(&[Stands::Declared, Stands::InStep, Stands::InStep]);
+    let names: Vec<_> = letters::names(&text).into_iter().filter(|name| name.0 == so).map(|name| name.1).collect();
+    letters::confuse(dice, &mut text, &names);
+    Made { text, sheet: None }
+}
+
 fn any(dice: &mut Dice) -> (&'static str, Made) {
     let mut at = dice.below(MAKERS.iter().map(|(_, often, _)| often).sum());
     for (kind, often, maker) in MAKERS {
         if at < often {
-            return (kind, maker(dice));
+            return (kind, maker(dice).respelt(dice));
         }
         at -= often;
     }

@@ -46,7 +46,7 @@ impl Plan {
                 }
                 ("events", names) => plan.names = names.iter().map(|name| name.to_string()).collect(),
                 ("step", [from, name, to]) => {
-                    let event = plan.names.iter().position(|n| n == name).expect("an event that is declared");
+                    let event = plan.event(name).expect("an event that is declared");
                     let row = &mut plan.next[number(from)];
                     row.resize(plan.names.len(), None);
                     row[event] = Some(number(to));
@@ -59,12 +59,17 @@ impl Plan {
         plan
     }
 
+    /// Names that differ only in case are one event.
+    fn event(&self, name: &str) -> Option<usize> {
+        self.names.iter().position(|known| known.eq_ignore_ascii_case(name))
+    }
+
     /// The names on the moves of a sheet that is good, in the order in which they come first; no more than these.
     pub fn of_sheet(sheet: &[u8]) -> Plan {
         let sheet = String::from_utf8_lossy(sheet);
         let mut plan = Plan::default();
         for name in sheet.split("(move ").skip(1).filter_map(|rest| rest.split(' ').next()) {
-            if !plan.names.iter().any(|known| known == name) {
+            if plan.event(name).is_none() {
                 plan.names.push(name.to_string());
             }
         }
@@ -97,7 +102,7 @@ impl Plan {
             let mut machine = Machine { start: start.parse().ok()?, moves: vec![None; self.names.len()] };
             for moved in moves.chunks(4) {
                 let ["move", name, pre, post] = moved else { return None };
-                let event = self.names.iter().position(|n| n == name)?;
+                let event = self.event(name)?;
                 machine.moves[event] = Some((pre.parse().ok()?, post.parse().ok()?));
             }
             Some(machine)

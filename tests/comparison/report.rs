@@ -1,9 +1,11 @@
 //! What was compared: how often each answer came, how far the walks went, and what differs.
+use crate::boards::spelt::LABELS as BOARD_CASE_LABELS;
 use crate::boards::telling::LABELS as BOARD_LABELS;
 use crate::call::{Call, Task, SERVICES};
 use crate::library::Fault;
 use crate::merging::LABELS as MERGE_LABELS;
 use crate::program::beside;
+use crate::spelt::LABELS as CASE_LABELS;
 use crate::starts::LABELS as START_LABELS;
 use crate::telling::LABELS;
 use std::collections::hash_map::DefaultHasher;
@@ -30,7 +32,8 @@ const DUE: [&[usize]; SERVICES.len()] = [
 ];
 
 fn labels() -> impl Iterator<Item = &'static str> {
-    START_LABELS.into_iter().chain(LABELS).chain(MERGE_LABELS).chain(BOARD_LABELS)
+    let of_texts = START_LABELS.into_iter().chain(CASE_LABELS).chain(LABELS).chain(MERGE_LABELS);
+    of_texts.chain(BOARD_LABELS).chain(BOARD_CASE_LABELS)
 }
 
 #[derive(Default)]

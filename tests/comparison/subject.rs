@@ -3,6 +3,7 @@ use crate::answer;
 use crate::call::{call, lending, names, run, Call};
 use crate::dice::Dice;
 use crate::draft::alike;
+use crate::letters;
 use crate::RULES;
 use reference::{self, Refusal, Step, TEXT_BOUND};
 
@@ -77,12 +78,14 @@ impl Subject {
         let longer = self.names.iter().map(|name| format!("{name:0<16}"));
         let shorter = self.names.iter().filter(|name| name.len() > 1).map(|name| name[..name.len() - 1].to_string());
         let near = alike().into_iter().chain(longer).chain(shorter);
-        near.filter(|name| name.len() <= 16 && !self.names.contains(name)).collect()
+        let declared = |name: &String| self.names.iter().any(|known| known.eq_ignore_ascii_case(name));
+        near.filter(|name| name.len() <= 16 && !declared(name)).collect()
     }
 
     fn undeclared(&self, dice: &mut Dice) -> String {
         let words = if dice.once_in(2) { self.undeclared_names() } else { self.undeclared_figures() };
-        dice.one(&words)
+        let word = dice.one(&words);
+        letters::spelt(dice, &word)
     }
 
     /// About half of the events asked for are declared.
@@ -93,7 +96,7 @@ impl Subject {
         }
         let event = dice.below(m);
         if dice.once_in(2) {
-            self.names[event].clone()
+            letters::spelt(dice, &self.names[event])
         } else {
             event.to_string()
         }
@@ -132,11 +135,11 @@ impl Subject {
         list
     }
 
-    /// As figures, as names, or by turns.
+    /// As figures, as names in whatever case, or by turns.
     fn spelt(&self, dice: &mut Dice, list: &[usize]) -> Vec<String> {
         let way = dice.below(4);
         let mut word = |event: &usize| match self.names.get(*event) {
-            Some(name) if way == 0 || (way == 1 && dice.once_in(2)) => name.clone(),
+            Some(name) if way == 0 || (way == 1 && dice.once_in(2)) => letters::spelt(dice, name),
             _ => event.to_string(),
         };
         list.iter().map(&mut word).collect()

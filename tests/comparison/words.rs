@@ -13,16 +13,16 @@ use std::os::unix::ffi::OsStrExt;
 use std::process::Output;
 
 /// Neither figure nor name, parted by bars.
-const NO_EVENTS: &[u8] = b"-1|+1|007|00|01|1.5|0x1|1e3|9x|-|-a|Ready|rEADY|readY|a_b|a b| ready|ready |ready\n|| |\
-    r\xc3\xa9ady|\xff|seventeen-letters";
+const NO_EVENTS: &[u8] = b"-1|+1|007|00|01|1.5|0x1|1e3|9x|-|-a|@|READ[|`eady|read{|a_b|a b| ready|ready |ready\n|| |\
+    r\xc3\xa9ady|\xd2EADY|a\x10|a\r|\xff|seventeen-letters|SEVENTEEN-LETTERS";
 
 /// Too few words, too many, or not those of any service.
 const NO_CALLS: &str =
-    "name|name 0 1|name ready ready|name Ready x y|run Ready Brake|check 5 6|check 300 0|check ready|steps 5 6|\
-    steps 5 5|steps ready|explain x y|thin 0|thin ready|sheet 5 6|sheet 300 0|sheet ready|help 1|help run|help Text|\
-    help text text|help board|explain|explain 0|explain 16|explain 01|explain x|\
-    explain 1x|explain -1|explain Open|explain idle event|explain 1 x|explain open 1 2 3|explain 12 0 02|Check|checks|\
-    chec|sheets|Board|merge 5 6|merge 300 0|merge ready|Merge|merges|quote 5|ready|0| check|check 0 | check 0|";
+    "name|name 0 1|name ready ready|name Ready x y|check 5 6|check 300 0|check ready|steps 5 6|steps 5 5|steps ready|\
+    explain x y|thin 0|thin ready|sheet 5 6|sheet 300 0|sheet ready|help 1|help run|help Text|help TEXT|help text text|\
+    help board|explain|explain 0|explain 16|explain 01|explain x|explain 1x|explain -1|explain Open|explain idle event|\
+    explain 1 x|explain open 1 2 3|explain 12 0 02|Check|checks|chec|sheets|Board|BOARD ready|Run|RUN 0|Name 0|STEPS|\
+    Thin|Help|Explain 1|merge 5 6|merge 300 0|merge ready|Merge|merges|quote 5|ready|READY|0| check|check 0 | check 0|";
 
 /// The refusals by their word, the first of two; the first has number 1.
 const REFUSALS: [&str; 15] = [
@@ -63,9 +63,8 @@ fn is_figure(word: &[u8]) -> bool {
 }
 
 fn is_event(word: &[u8]) -> bool {
-    let name = |b: &u8| b.is_ascii_lowercase() || b.is_ascii_digit() || *b == b'-';
-    is_figure(word)
-        || (1..=16).contains(&word.len()) && word[0].is_ascii_lowercase() && word.iter().all(name)
+    let name = |b: &u8| b.is_ascii_alphanumeric() || *b == b'-';
+    is_figure(word) || (1..=16).contains(&word.len()) && word[0].is_ascii_alphabetic() && word.iter().all(name)
 }
 
 fn is_refusal(word: &[u8]) -> bool {

@@ -71,14 +71,14 @@ const FAULTS: &[(&str, &str)] = &[
     ("12 1 0", "(states 3)|(events b a)|(step 0 b 1)|(step 1 a 2)|(machine (0 1) (2))|(machine (0) (1 2))"),
     // On one line 1 before 2 before 3, else by line.
     ("1 1 0", "(states 257 )|(events)|(machine (0))"),
-    ("2 1 0", "(states 0)|(events A)|(machine (0))"),
+    ("2 1 0", "(states 0)|(events 0a)|(machine (0))"),
     ("1 2 0", "(states 2)|(events a a -)|(machine (0))"),
     ("3 3 0", "(states 2)|(events a)|(step 0 b 1)|()"),
     ("1 3 0", "(states 2)|(events a)|(step 0 b 01)|(machine (0 1))"),
     // So with a start on line 1, which has to be a state.
     ("1 1 0", "(states 0 start)|(events)|(machine (0))"),
     ("1 1 0", "(states 257 start 1000)|(events)|(machine (0))"),
-    ("2 1 0", "(states 257 start 0)|(events A)|(machine (0))"),
+    ("2 1 0", "(states 257 start 0)|(events 0a)|(machine (0))"),
     ("2 1 0", "(states 257 start 257)|(events)|(machine (0))"),
     ("3 1 0", "(states 256 start 256)|(events)|(machine (0))"),
     ("3 1 0", "(states 1 start 1)|()"),

@@ -1,6 +1,7 @@
 //! What can be wrong with a sheet, each done to a good one.
 use crate::boards::{good, Machine, Sheet};
 use crate::dice::Dice;
+use crate::letters;
 
 type Defect = fn(&mut Dice, &mut Sheet);
 
@@ -92,14 +93,15 @@ fn ends_equal(dice: &mut Dice, sheet: &mut Sheet) {
     }
 }
 
-/// By the same move, or by another.
+/// By the same move, or by another, in whatever case.
 fn event_twice(dice: &mut Dice, sheet: &mut Sheet) {
     if let Some(machine) = moving(dice, sheet) {
         let (name, mut pre, mut post) = dice.one(&machine.moves);
         if dice.once_in(2) {
             (pre, post) = (post, pre);
         }
-        dice.insert(&mut machine.moves, (name, pre, post));
+        let again = letters::spelt(dice, &name);
+        dice.insert(&mut machine.moves, (again, pre, post));
     }
 }
 
@@ -108,7 +110,7 @@ fn name_damaged(dice: &mut Dice, sheet: &mut Sheet) {
         let at = dice.below(machine.moves.len());
         let name = &mut machine.moves[at].0;
         let damaged = [
-            name.to_uppercase(),
+            name.to_uppercase().replace(['A', 'E', 'O'], "@"),
             format!("{name:x<17}"),
             name.chars().skip(1).collect(),
             format!("-{name}"),

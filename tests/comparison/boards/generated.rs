@@ -5,15 +5,17 @@ use crate::boards::lists::Board;
 use crate::call::{call, lending, Call, Task};
 use crate::damage::spoilt;
 use crate::dice::Dice;
+use crate::letters;
 use crate::products::product;
 use crate::RULES;
 
 /// The kind of sheet, how often it is made among all, and how.
-const MAKERS: [(&str, usize, fn(&mut Dice) -> Vec<u8>); 5] = [
+const MAKERS: [(&str, usize, fn(&mut Dice) -> Vec<u8>); 6] = [
     ("good sheet", 40, |dice| good(dice).text().into_bytes()),
     ("sheet of a product", 10, |dice| product(dice, 12, false).drawn(dice).1.into_bytes()),
     ("sheet with a defect", 30, |dice| with_defects(dice, 1)),
     ("sheet with two defects", 30, |dice| with_defects(dice, 2)),
+    ("sheet with a byte taken for another", 15, with_confused_byte),
     ("damaged sheet", 30, damaged),
 ];
 
@@ -23,6 +25,14 @@ fn with_defects(dice: &mut Dice, count: usize) -> Vec<u8> {
         dice.one(&DEFECTS)(dice, &mut sheet);
     }
     sheet.text().into_bytes()
+}
+
+/// In the name of a move.
+fn with_confused_byte(dice: &mut Dice) -> Vec<u8> {
+    let mut sheet = roomy(dice).text().into_bytes();
+    let names: Vec<_> = letters::names(&sheet).into_iter().map(|name| name.1).collect();
+    letters::confuse(dice, &mut sheet, &names);
+    sheet
 }
 
 fn damaged(dice: &mut Dice) -> Vec<u8> {
@@ -59,7 +69,8 @@ pub fn tasks(seed: u64, count: usize) -> impl Iterator<Item = Task> {
             at = at.wrapping_sub(*often);
             found
         })?;
-        let sheet = maker(&mut dice);
+        let mut sheet = maker(&mut dice);
+        letters::respell_sheet(&mut dice, &mut sheet);
         let calls = calls(&mut dice, &sheet);
         let said = calls.iter().filter(|call| !call.unsaid).count();
         left = left.checked_sub(said.max(1))?;

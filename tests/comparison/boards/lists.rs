@@ -2,6 +2,7 @@
 use crate::call::{board, Call};
 use crate::dice::Dice;
 use crate::draft::alike;
+use crate::letters;
 use crate::machines::{after, Machine, Plan};
 
 /// A good sheet's machines, and its names in the order in which they come first; of others neither.
@@ -12,7 +13,7 @@ pub struct Board {
 
 /// Nothing that a move can name.
 const OTHERS: [&[u8]; 12] =
-    [b"", b"\0", b" ", b"A", b"\r", b"_", b"\xff", b"(", b"0", b"\xc3\xa9", b"-", b"seventeen-letters"];
+    [b"", b"\0", b" ", b"@", b"\r", b"_", b"\xff", b"(", b"0", b"\xc3\xa9", b"-", b"seventeen-letters"];
 
 impl Board {
     pub fn new(sheet: &[u8], is_good: bool) -> Board {
@@ -21,11 +22,13 @@ impl Board {
         Board { names: plan.names, machines }
     }
 
+    /// In whatever case.
     fn name(&self, dice: &mut Dice) -> Vec<u8> {
-        match self.names.len() {
-            0 => dice.one(&alike()).into_bytes(),
-            n => self.names[dice.below(n)].clone().into_bytes(),
-        }
+        let name = match self.names.len() {
+            0 => dice.one(&alike()),
+            n => self.names[dice.below(n)].clone(),
+        };
+        letters::spelt(dice, &name).into_bytes()
     }
 
     /// So many events that run one after another, or as far as any does; and where the machines then stand.
@@ -47,18 +50,24 @@ impl Board {
     }
 
     pub fn whole(&self, dice: &mut Dice, size: usize) -> Vec<Vec<u8>> {
-        self.walk(dice, size).0.iter().map(|event| self.names[*event].clone().into_bytes()).collect()
+        let events = self.walk(dice, size).0;
+        events.iter().map(|event| letters::spelt(dice, &self.names[*event]).into_bytes()).collect()
     }
 
-    /// A name that some event has but for its end, or one that is alike.
+    /// A name that some event has but for its end or a byte that is taken for another, or one that is alike.
     fn near(&self, dice: &mut Dice) -> Vec<u8> {
-        let name = self.name(dice);
-        match dice.below(6) {
+        let mut name = self.name(dice);
+        match dice.below(7) {
             0 => name[..name.len() - 1].to_vec(),
             1 => [name, vec![dice.one(b"0-a")]].concat(),
             2 => [name, vec![dice.one(b"\0 \rA\xff")]].concat(),
             3 => [name, vec![dice.one(b"\0 a"); 1 + dice.below(40)]].concat(),
             4 => dice.one(&alike()).into_bytes(),
+            5 => {
+                let whole = 0..name.len();
+                letters::confuse(dice, &mut name, &[whole]);
+                name
+            }
             _ => dice.one(&OTHERS).to_vec(),
         }
     }

@@ -49,7 +49,11 @@ impl Loaded {
 
     fn of_odd(&self, list: &[Option<usize>], position: usize, odd: &[u8]) -> Vec<&'static str> {
         let before: Vec<usize> = list[..position].iter().map(|event| event.expect("a name on a move")).collect();
-        let near = |name: &String| name.as_bytes().starts_with(odd) || odd.starts_with(name.as_bytes());
+        let odd = odd.to_ascii_lowercase();
+        let near = |name: &String| {
+            let name = name.to_ascii_lowercase().into_bytes();
+            name.starts_with(&odd) || odd.starts_with(&name)
+        };
         let told = [
             (ODD_LATER, position > 0),
             (ODD_AFTER_BLOCK, self.run(&before) < position),
@@ -64,7 +68,8 @@ impl Loaded {
         let sheet = String::from_utf8_lossy(sheet);
         sheet.lines().any(|line| {
             let named = line.split("(move ").skip(1).filter_map(|rest| rest.split(' ').next());
-            let numbers: Vec<_> = named.map(|name| self.names.iter().position(|n| n == name)).collect();
+            let numbers: Vec<_> =
+                named.map(|name| self.names.iter().position(|n| n.eq_ignore_ascii_case(name))).collect();
             !numbers.is_sorted()
         })
     }
@@ -97,7 +102,8 @@ pub fn of(sheet: &[u8], call: &Call, told: &Told) -> Vec<&'static str> {
     let loaded = Loaded::of(sheet);
     let names: Vec<&[u8]> = call.list.split_inclusive(|b| *b == b'\n').collect();
     let bare = |name: &[u8]| name.strip_suffix(b"\n").unwrap_or(name).to_vec();
-    let number = |name: &&[u8]| loaded.names.iter().position(|known| known.as_bytes() == bare(name));
+    let number =
+        |name: &&[u8]| loaded.names.iter().position(|known| known.as_bytes().eq_ignore_ascii_case(&bare(name)));
     let list: Vec<Option<usize>> = names.iter().map(number).collect();
     match told {
         Told::Ran(blocked, places) => {

@@ -8,7 +8,7 @@ pub const Y: &str = "(accepted 2)\n(machine 0 (places 2) (start 0) (move ready 0
                      (machine 1 (places 2) (start 0) (move brake 0 1) (move home 1 0))\n";
 
 /// The sheet is good, and both calls say so; or neither does.
-fn known(sheet: impl Into<String>, refusal: Option<&str>) -> Task {
+pub fn known(sheet: impl Into<String>, refusal: Option<&str>) -> Task {
     let sheet = sheet.into();
     let calls = match refusal {
         None => vec![call("sheet").giving(&sheet)],
@@ -47,7 +47,7 @@ const LISTS: &[(&str, &str)] = &[
     ("ready||", "(refused 14 1 0)"),
     ("ready||brake", "(refused 14 1 0)"),
     // The bytes of a name are not looked at for their form.
-    ("Ready|", "(refused 14 0 0)"),
+    ("R@ady|", "(refused 14 0 0)"),
     ("ready |", "(refused 14 0 0)"),
     (" ready|", "(refused 14 0 0)"),
     ("ready\0|", "(refused 14 0 0)"),
@@ -122,7 +122,7 @@ const FAULTS: &[(usize, &str)] = &[
     (2, "(accepted 1)|(machine 0 (places 1) (start 0) )"),
     (2, "(accepted 1)|(machine 0 (start 0) (places 1))"),
     (2, "(accepted 1)|(machine 0 (places 1))"),
-    (2, "(accepted 1)|(machine 0 (places 2) (start 0) (move A 0 1))"),
+    (2, "(accepted 1)|(machine 0 (places 2) (start 0) (move 0a 0 1))"),
     (2, "(accepted 1)|(machine 0 (places 2) (start 0) (move seventeen-letters 0 1))"),
     (2, "(accepted 1)|(net 0 (marked 0) (move a (0) (1)))"),
     (3, "(accepted 2)|(machine 0 (places 1) (start 0))|(net 1 (marked))"),
