@@ -11,6 +11,7 @@ pub mod fixed;
 mod forms;
 pub mod generated;
 mod lists;
+mod spellings;
 pub mod spelt;
 pub mod telling;
 pub mod written;

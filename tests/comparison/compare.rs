@@ -38,6 +38,7 @@ mod products;
 mod program;
 mod redundant;
 mod report;
+mod spellings;
 mod spelt;
 #[path = "../../include/split.rs"]
 mod split;

@@ -3,7 +3,7 @@ use crate::call::{call, lending, run, Call, Task};
 use crate::dice::Dice;
 use crate::draft::{alike, q_with_third, y_from, y_with_first_again, ONE_STATE, Q, TINY, Y};
 use crate::subject::Subject;
-use crate::{crowds, forms, limits, merged, products, redundant, wide, written};
+use crate::{crowds, forms, limits, merged, products, redundant, spellings, wide, written};
 use reference::TEXT_BOUND;
 use std::collections::HashMap;
 
@@ -185,7 +185,8 @@ fn joined(tasks: Vec<Task>) -> Vec<Task> {
 
 pub fn all() -> Vec<Task> {
     let mut dice = Dice::new(1);
-    let mut tasks = [written::examples(), written::calls(), written::faults(), merged::known()].concat();
+    let mut tasks =
+        [written::examples(), written::calls(), written::faults(), merged::known(), spellings::written()].concat();
     let limits = limits::all(&mut dice);
     let numbered = (0..64).map(|k| format!("e{k}")).collect();
     let named = [alike(), numbered].map(|names: Vec<String>| forms::with_names(names.clone(), &names));
@@ -196,7 +197,7 @@ pub fn all() -> Vec<Task> {
     }
     let sixteen = redundant::sixteen_needed(&mut dice).text().into_bytes();
     let others = [written::faults(), written::examples()].concat().into_iter().map(|task| task.text());
-    for text in others.chain(example_files()).chain([sixteen]) {
+    for text in others.chain(example_files()).chain([sixteen]).chain(spellings::texts()) {
         let subject = Subject::new(text);
         let calls = subject.one_of_each(&mut dice);
         tasks.push(Task::new("example", subject.text, calls));
@@ -209,5 +210,5 @@ pub fn all() -> Vec<Task> {
     tasks.extend(long_lists(&mut dice));
     tasks.extend(pieces());
     tasks.extend(many(&mut dice));
-    joined(tasks)
+    joined(tasks).into_iter().chain(spellings::many()).collect()
 }

@@ -1,7 +1,7 @@
 //! The calls on sheets that are the same at every run.
 use crate::boards::lists::Board;
 use crate::boards::written::{self, machines, Y};
-use crate::boards::{forms, Machine, Sheet};
+use crate::boards::{forms, spellings, Machine, Sheet};
 use crate::call::{board, call, lending, Call, Task};
 use crate::dice::Dice;
 use crate::subject::HUGE;
@@ -107,6 +107,7 @@ pub fn all() -> Vec<Task> {
     tasks.push(Task::new("sheet sizes", Y, rooms(Y.as_bytes()).into_iter().map(each).collect()));
     tasks.extend(long_lists());
     tasks.extend(pieces());
+    tasks.extend(spellings::all());
     tasks.extend(many([forms::all(), others()].concat()));
     tasks
 }
