@@ -14,6 +14,8 @@ pub struct Text {
 
 pub struct Case {
     pub name: String,
+    /// The text or the sheet that this one spells in capitals, if it does.
+    pub base: Option<String>,
     pub call: Call,
     /// What all programs tell.
     pub told: Told,
@@ -31,7 +33,7 @@ impl Case {
             eprintln!("bench: the programs do not agree on {} ({name})", call.service.word());
             std::process::exit(1);
         }
-        Case { name: name.to_string(), call, told, ns: Default::default() }
+        Case { name: name.to_string(), base: None, call, told, ns: Default::default() }
     }
 
     pub fn refusal(&self) -> Option<[usize; 3]> {

@@ -21,8 +21,9 @@ impl Goal {
     }
 }
 
+/// On the texts and sheets as they are.
 fn of<'a>(cases: &'a [Case], service: &'a str) -> impl Iterator<Item = &'a Case> {
-    cases.iter().filter(move |case| case.call.service.word() == service)
+    cases.iter().filter(move |case| case.base.is_none() && case.call.service.word() == service)
 }
 
 /// The proved library beside the peer on one text or sheet.
@@ -57,6 +58,23 @@ fn flat(cases: &[Case], series: &str) -> Goal {
     Goal { what: format!("ns/byte, most to least, {series}04k to 32k"), most: 1.5, measured }
 }
 
+/// Each text or sheet with names in capitals beside itself in small letters.
+fn capitals(cases: &[Case]) -> Vec<Goal> {
+    let mut goals: Vec<Goal> = Vec::new();
+    for (case, base) in cases.iter().filter_map(|case| Some((case, case.base.as_ref()?))) {
+        let what = format!("{} to small letters", case.name);
+        if goals.last().is_none_or(|goal| goal.what != what) {
+            goals.push(Goal { what, most: 1.2, measured: SERVICES.map(|_| None) });
+        }
+        let service = case.call.service.word();
+        let small = of(cases, service).find(|other| other.name == *base).expect("it in small letters");
+        let column = SERVICES.iter().position(|word| *word == service).expect("a service");
+        let goal = goals.last_mut().expect("a goal");
+        goal.measured[column] = Some(ratio(&case.ns[PROVED], &small.ns[PROVED]));
+    }
+    goals
+}
+
 /// Of the accepted texts and the good sheets.
 pub fn goals(cases: &[Case]) -> Table {
     let large = of(cases, "check").filter(|case| case.name.ends_with("-32k"));
@@ -67,6 +85,7 @@ pub fn goals(cases: &[Case]) -> Table {
     goals.push(to_peer(cases, "a-y", 2.0));
     goals.push(thin_to_check(cases));
     goals.extend(["machines-", "steps-"].map(|series| flat(cases, series)));
+    goals.extend(capitals(cases));
     let head = [vec!["goal", "at most"], SERVICES.to_vec(), vec!["verdict"]].concat();
     Table { head, rows: goals.into_iter().map(Goal::row).collect() }
 }

@@ -18,6 +18,7 @@ mod peer;
 mod peer_slips;
 mod proved;
 mod refused;
+mod spelling;
 #[path = "../include/split.rs"]
 mod split;
 mod table;
@@ -61,6 +62,7 @@ fn main() {
     let (texts, sheets) = (cases::texts(), cases::sheets());
     let mut cases: Vec<Case> = texts.iter().flat_map(|text| cases::accepted(&mut programs, text)).collect();
     cases.extend(sheets.iter().flat_map(|sheet| cases::loaded(&mut programs, sheet)));
+    cases.extend(spelling::cases(&mut programs, &texts, &sheets));
     cases.extend(refused::refused(&mut programs, &texts, &sheets));
     timing::measure(&mut programs, &mut cases, passes);
     let (no, yes): (Vec<Case>, Vec<Case>) = cases.into_iter().partition(|case| case.refusal().is_some());

@@ -5,9 +5,9 @@ use reference::Refusal;
 use std::hint::black_box;
 
 /// How many requests of document 02 are in force.
-const RULES: reference::Rules = reference::Rules(4);
+const RULES: reference::Rules = reference::Rules(5);
 
-/// It has no steps and no name.
+/// It has no steps and no name, and check, run and thin only on names in small letters.
 pub struct Peer {
     sheet: Vec<u8>,
 }
@@ -25,6 +25,11 @@ impl Peer {
     }
 }
 
+/// Whether the part of the peer that has check, run and thin reads it.
+fn is_small(text: &[u8]) -> bool {
+    !text.iter().any(u8::is_ascii_uppercase)
+}
+
 fn refused(number: u8, detail: usize, second: usize) -> Told {
     Told::Refused([number.into(), detail, second])
 }
@@ -32,6 +37,7 @@ fn refused(number: u8, detail: usize, second: usize) -> Told {
 impl Program for Peer {
     fn tell(&mut self, Call { text, service }: &Call) -> Option<Told> {
         match service {
+            Service::Check(_) | Service::Run(_) | Service::Thin if !is_small(text) => None,
             Service::Check(lent) => Some(match peer::check(text, &mut self.sheet[..*lent]) {
                 peer::Answer::Accepted(size) => Told::Sheet(self.sheet[..size].to_vec()),
                 peer::Answer::Refused(number, detail, second) => refused(number, detail, second),
