@@ -94,7 +94,7 @@ static int boards(void)
     struct split_run_answer bad = split_board(TEXT(y), TEXT("ready\n"));
     struct split_run_answer odd = split_board(TEXT(sheet), TEXT("ready\nbrake"));
     struct split_run_answer none = split_board(TEXT(sheet), NULL, 0);
-    struct split_run_answer two = split_board(TEXT(sheet), TEXT("ready\nhome\n"));
+    struct split_run_answer two = split_board(TEXT(sheet), TEXT("READY\nhome\n"));
     return bad.number == SPLIT_BAD_SHEET && bad.detail == 1 && bad.second == 0 && same(bad.places, start, 16) &&
            odd.number == SPLIT_ODD_CALL && odd.detail == 1 && odd.second == 0 && same(odd.places, start, 16) &&
            ANSWERED(none) && none.blocked == 0 && same(none.places, start, 16) &&

@@ -29,7 +29,7 @@ static int runs(void)
     struct board_run_answer bad = board_run(TEXT(short_by_one), TEXT("ready\n"));
     struct board_run_answer odd = board_run(TEXT(sheet), TEXT("ready\nbrake"));
     struct board_run_answer none = board_run(TEXT(sheet), NULL, 0);
-    struct board_run_answer two = board_run(TEXT(sheet), TEXT("ready\nbrake\n"));
+    struct board_run_answer two = board_run(TEXT(sheet), TEXT("ready\nBRAKE\n"));
     struct board_run_answer held = board_run(TEXT(sheet), TEXT("ready\nhome\n"));
     return BAD(bad, 2) && same(bad.places, start, 16) && odd.number == BOARD_ODD_CALL && odd.detail == 1 &&
            odd.second == 0 && same(odd.places, start, 16) &&
