@@ -1,19 +1,18 @@
 -- Lines that say the same, and what holds of them alike: line 1 in either form, the name of a step in any spelling.
 use Prim.Native.Nat.{ℕ, suc, _≤_}
 use mathlib.Core.Path.{_≡_, refl, ap, sym, _∙_, subst}
-use mathlib.Core.Logic.{_⊎_, inl, inr}
-use mathlib.Core.Bool.{Bool, cond, not}
+use mathlib.Core.Logic.{inl, inr}
+use mathlib.Core.Bool.{Bool, cond}
 use mathlib.Core.List.{List, [], _∷_, _++_, List·Memᴰ}
 use mathlib.Core.Option.{Option}
-use lib.Dec.{T}
 use lib.ListN.{length}
 use Rattle.model.specs.Lists.{Pairwise, count, index}
 use Rattle.model.specs.Machine.{Place, Decomposition}
-use Rattle.model.specs.Bytes.{Name, OneEvent, sameName}
+use Rattle.model.specs.Bytes.{Name, OneEvent}
 use Rattle.model.specs.Form.{Line, states, events, step, machine, startOf, Respelt, Formed, Follows, isStepLine, isMachineLine}
 use Rattle.model.specs.Text.{eventNumber, stateCount, initialState, eventNames, transitionsIn, machinesIn, valueOf}
 use Rattle.model.specs.Table.{OverLimit, Undeclared, Fine}
-use Rattle.model.proofs.Laws.{dec, T-true, T-false, not-T, contra}
+use Rattle.model.proofs.Pairs.{pairwise-map, pairwise-sym, pairwise-length, pairwise-snoc}
 use Rattle.model.proofs.OneEvent.{one-refl, one-sym, one-trans, one-name, same-test}
 use Rattle.model.proofs.Chains.{Each, Proper}
 
@@ -39,22 +38,13 @@ alike-sym l k (spelt a e f b o) = spelt a f e b (one-sym e f o)
 alike-sym l k (split ps) = split ps
 
 pub all-sym : (ls ks : List Line) → AllAlike ls ks → AllAlike ks ls
-all-sym [] [] p = tt
-all-sym [] (k ∷ ks) p = absurd p
-all-sym (l ∷ ls) [] p = absurd p
-all-sym (l ∷ ls) (k ∷ ks) p = (alike-sym l k (p .0), all-sym ls ks (p .1))
+all-sym ls ks = pairwise-sym ls ks alike-sym
 
 pub all-snoc : (ls ks : List Line) (l k : Line) → AllAlike ls ks → Alike l k → AllAlike (ls ++ (l ∷ [])) (ks ++ (k ∷ []))
-all-snoc [] [] l k p q = (q, tt)
-all-snoc [] (y ∷ ks) l k p q = absurd p
-all-snoc (x ∷ ls) [] l k p q = absurd p
-all-snoc (x ∷ ls) (y ∷ ks) l k p q = (p .0, all-snoc ls ks l k (p .1) q)
+all-snoc = pairwise-snoc Alike
 
 pub respelt-alike : (ls ks : List Line) → Pairwise Respelt ls ks → AllAlike ls ks
-respelt-alike [] [] p = tt
-respelt-alike [] (k ∷ ks) p = absurd p
-respelt-alike (l ∷ ls) [] p = absurd p
-respelt-alike (l ∷ ls) (k ∷ ks) p = (one l k (p .0), respelt-alike ls ks (p .1))
+respelt-alike ls ks = pairwise-map ls ks one
   where
     one : (l k : Line) → Respelt l k → Alike l k
     one (states n o) k q = subst (Alike (states n o)) (sym q) (first n o o refl)
@@ -128,7 +118,7 @@ machines-said l k xs ys (split ps) e = ap (λ (x : Decomposition). record { plac
 
 module _ (ls ks : List Line) (p : AllAlike ls ks) where
   pub same-length : length ls ≡ length ks
-  same-length = by-lines (λ (x : List Line). length x) (λ l k xs ys a e. ap suc e) ls ks p
+  same-length = pairwise-length Alike ls ks p
 
   pub same-machines : count isMachineLine ls ≡ count isMachineLine ks
   same-machines = counted isMachineLine machine-test ls ks p

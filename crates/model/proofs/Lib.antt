@@ -1,9 +1,10 @@
 -- The theorems about the definitions of specs/. `Demands` has demand1, demand2 and demand3; `Numerals` has read-back; specs/Examples has starred.
 
--- general laws: tests, lists, positions, counting
+-- general laws: tests, lists, positions, pairs, counting
 pub mod Laws
 pub mod ListLaws
 pub mod Positions
+pub mod Pairs
 pub mod Counting
 -- the theory: machines by their moves alone (Together), one machine (Bounds to Moves), machines and transition system together (Simulate), reaching, what
 -- passing leaves, thinning, running

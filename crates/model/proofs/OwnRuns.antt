@@ -20,7 +20,8 @@ use Rattle.model.specs.Demands.{OfSystem, SystemRuns, Answers, Spells, S
 use Rattle.model.proofs.Laws.{and-l, and-r, every-intro}
 use Rattle.model.proofs.Positions.{at-below, at-mem, at-same}
 use Rattle.model.proofs.Places.{Good}
-use Rattle.model.proofs.Together.{SameMoves, same-effective, same-run, pairwise-map}
+use Rattle.model.proofs.Together.{SameMoves, same-effective, same-run}
+use Rattle.model.proofs.Pairs.{pairwise-map}
 use Rattle.model.proofs.SheetMoves.{on-sheet, sheet-on}
 use Rattle.model.proofs.Simulate.{Covers}
 use Rattle.model.proofs.Verdicts.{refused-passed, same-passed}

@@ -3,10 +3,9 @@ use Prim.Native.Nat.{ℕ, zero, suc, _+_, _-_, _≤_, _<_}
 use native.Mathlib.Omega.{arith}
 use mathlib.Core.Path.{_≡_, refl, ap, sym, _∙_, subst}
 use mathlib.Core.Logic.{_⊎_, inl, inr}
-use mathlib.Core.List.{List, [], _∷_, _++_, flatMap, List·Memᴰ, List·Memᴰ·head, List·Memᴰ·tail}
-use mathlib.Core.Option.{Option·some-injective, Option·none-ne-some}
+use mathlib.Core.List.{List, [], _∷_, _++_, flatMap}
 use lib.ListN.{length, take, drop, length-append}
-use Rattle.model.specs.Lists.{At, Pairwise}
+use Rattle.model.specs.Lists.{Pairwise}
 use Rattle.model.specs.Refusal.{refuse, refused, passed}
 use Rattle.model.specs.Bytes.{bytes, digits, Name}
 use Rattle.model.specs.Sheet.{NamedMove, NamedLine, Board, moveBytes, writtenMove, writtenLine, writtenCount}
@@ -14,6 +13,7 @@ use Rattle.model.specs.Board.{readSheet, boardRun}
 use Rattle.model.specs.BoardTable.{OnSheet, GoodLine, BeginsSheet, too-long, line}
 use Rattle.model.specs.Spelling.{RespeltMove, RespeltLine, RespeltSheet, LoadedAlike}
 use Rattle.model.proofs.Laws.{order}
+use Rattle.model.proofs.Pairs.{pairwise-same, pairwise-sym, pairwise-length, pairwise-snoc, pairwise-take, pairwise-at, pairwise-mem}
 use Rattle.model.proofs.OneEvent.{one-sym, one-trans, one-name, one-length}
 use Rattle.model.proofs.Loading.{Next, stands, misses, next-view, says-loaded, bad-loaded}
 use Rattle.model.proofs.Verdicts.{refused-passed}
@@ -22,45 +22,24 @@ use Rattle.model.proofs.SheetsAlike.{boards-alike}
 
 -- ---- a good sheet stays good
 
--- at the same position, or in the same list, stands the other
-at-other : {A B : Type 0} (S : A → B → Type 0) (xs : List A) (ys : List B) → Pairwise S xs ys → (i : ℕ) (y : B) → At ys i y → (x : A) × At xs i x × S x y
-at-other S [] [] p i y a = absurd (Option·none-ne-some y a)
-at-other S [] (z ∷ ys) p i y a = absurd p
-at-other S (x ∷ xs) [] p i y a = absurd p
-at-other S (x ∷ xs) (z ∷ ys) p zero y a = (x, refl, subst (S x) (Option·some-injective z y a) (p .0))
-at-other S (x ∷ xs) (z ∷ ys) p (suc i) y a = at-other S xs ys (p .1) i y a
+move-sym : (x y : NamedMove) → RespeltMove x y → RespeltMove y x
+move-sym x y r = record { event = one-sym (x .event) (y .event) (r .event); pre = sym (r .pre); post = sym (r .post) }
 
-mem-other : {A B : Type 0} (S : A → B → Type 0) (xs : List A) (ys : List B) → Pairwise S xs ys → (y : B) → List·Memᴰ y ys → (x : A) × List·Memᴰ x xs × S x y
-mem-other S [] [] p y m = elim m [ ]
-mem-other S [] (z ∷ ys) p y m = absurd p
-mem-other S (x ∷ xs) [] p y m = absurd p
-mem-other S (x ∷ xs) (z ∷ ys) p y (List·Memᴰ·head q) = (x, List·Memᴰ·head refl, subst (S x) (sym q) (p .0))
-mem-other S (x ∷ xs) (z ∷ ys) p y (List·Memᴰ·tail m) = let w = mem-other S xs ys (p .1) y m in (w .0, List·Memᴰ·tail (w .1), w .2)
+line-sym : (l k : NamedLine) → RespeltLine l k → RespeltLine k l
+line-sym l k r =
+    record { number = sym (r .number); placeCount = sym (r .placeCount); start = sym (r .start); moves = pairwise-sym (l .moves) (k .moves) move-sym (r .moves) }
+
+lines-sym : (b c : Board) → Pairwise RespeltLine b c → Pairwise RespeltLine c b
+lines-sym b c = pairwise-sym b c line-sym
 
 same-size : (b c : Board) → Pairwise RespeltLine b c → length b ≡ length c
-same-size [] [] p = refl
-same-size [] (k ∷ c) p = absurd p
-same-size (l ∷ b) [] p = absurd p
-same-size (l ∷ b) (k ∷ c) p = ap suc (same-size b c (p .1))
-
-snoc-lines : (b c : Board) (l k : NamedLine) → Pairwise RespeltLine b c → RespeltLine l k → Pairwise RespeltLine (b ++ (l ∷ [])) (c ++ (k ∷ []))
-snoc-lines [] [] l k p r = (r, tt)
-snoc-lines [] (y ∷ c) l k p r = absurd p
-snoc-lines (x ∷ b) [] l k p r = absurd p
-snoc-lines (x ∷ b) (y ∷ c) l k p r = (p .0, snoc-lines b c l k (p .1) r)
-
-take-lines : (n : ℕ) (b c : Board) → Pairwise RespeltLine b c → Pairwise RespeltLine (take n b) (take n c)
-take-lines zero b c p = tt
-take-lines (suc n) [] [] p = tt
-take-lines (suc n) [] (y ∷ c) p = absurd p
-take-lines (suc n) (x ∷ b) [] p = absurd p
-take-lines (suc n) (x ∷ b) (y ∷ c) p = (p .0, take-lines n b c (p .1))
+same-size = pairwise-length RespeltLine
 
 on-other : (b c : Board) → Pairwise RespeltLine b c → (e : Name) → OnSheet c e → OnSheet b e
 on-other b c p e (k, m, (y, i, o)) =
-    let w = mem-other RespeltLine b c p k m in
-    let z = mem-other RespeltMove (w .0 .moves) (k .moves) (w .2 .moves) y i in
-    (w .0, w .1, (z .0, z .1, one-trans e (y .event) (z .0 .event) o (one-sym (z .0 .event) (y .event) (z .2 .event))))
+    let (l, j, r) = pairwise-mem RespeltLine c b (lines-sym b c p) k m in
+    let (x, h, q) = pairwise-mem RespeltMove (k .moves) (l .moves) (r .moves) y i in
+    (l, j, (x, h, one-trans e (y .event) (x .event) o (q .event)))
 
 good-again : (b c : Board) (l k : NamedLine) → Pairwise RespeltLine b c → RespeltLine l k → GoodLine b l → GoodLine c k
 good-again b c l k p r g =
@@ -70,26 +49,29 @@ good-again b c l k p r g =
       places-most = subst (λ (n : ℕ). n ≤ 64) (r .placeCount) (g .places-most);
       start = omega (arith, g .start, r .start, r .placeCount);
       moves = λ y i.
-          let z = mem-other RespeltMove (l .moves) (k .moves) (r .moves) y i in
-          let m = g .moves (z .0) (z .1) in
+          let (x, j, z) = pairwise-mem RespeltMove (k .moves) (l .moves) back y i in
+          let m = g .moves x j in
           record {
-            name = one-name (y .event) (z .0 .event) (one-sym (z .0 .event) (y .event) (z .2 .event)) (m .name);
-            pre = omega (arith, m .pre, z .2 .pre, r .placeCount);
-            post = omega (arith, m .post, z .2 .post, r .placeCount);
-            differ = λ q. m .differ (z .2 .pre ∙ q ∙ sym (z .2 .post));
+            name = one-name (y .event) (x .event) (z .event) (m .name);
+            pre = omega (arith, m .pre, z .pre, r .placeCount);
+            post = omega (arith, m .post, z .post, r .placeCount);
+            differ = λ q. m .differ (sym (z .pre) ∙ q ∙ z .post);
           };
       once = λ i j x y a d o.
-          let u = at-other RespeltMove (l .moves) (k .moves) (r .moves) i x a in
-          let v = at-other RespeltMove (l .moves) (k .moves) (r .moves) j y d in
-          g .once i j (u .0) (v .0) (u .1) (v .1)
-          (one-trans (u .0 .event) (x .event) (v .0 .event) (u .2 .event) (one-trans (x .event) (y .event) (v .0 .event) o (one-sym (v .0 .event) (y .event) (v .2 .event))));
+          let (u, e, f) = pairwise-at RespeltMove (k .moves) (l .moves) back i x a in
+          let (v, h, q) = pairwise-at RespeltMove (k .moves) (l .moves) back j y d in
+          g .once i j u v e h
+          (one-trans (u .event) (x .event) (v .event) (one-sym (x .event) (u .event) (f .event)) (one-trans (x .event) (y .event) (v .event) o (q .event)));
       names =
           record {
             names = g .names .names;
             most = g .names .most;
-            all = λ e s. g .names .all e (on-other (b ++ (l ∷ [])) (c ++ (k ∷ [])) (snoc-lines b c l k p r) e s);
+            all = λ e s. g .names .all e (on-other (b ++ (l ∷ [])) (c ++ (k ∷ [])) (pairwise-snoc RespeltLine b c l k p r) e s);
           };
     }
+  where
+    back : Pairwise RespeltMove (k .moves) (l .moves)
+    back = line-sym l k r .moves
 
 moves-long : (xs ys : List NamedMove) → Pairwise RespeltMove xs ys → length (flatMap writtenMove xs) ≡ length (flatMap writtenMove ys)
 unfolding flatMap writtenMove moveBytes
@@ -116,25 +98,8 @@ lines-long (l ∷ b) (k ∷ c) p =
     let ih = lines-long b c (p .1) in
     simp length-append (omega (arith, n, a, z, q, ih))
 
-lines-sym : (b c : Board) → Pairwise RespeltLine b c → Pairwise RespeltLine c b
-lines-sym [] [] p = tt
-lines-sym [] (k ∷ c) p = absurd p
-lines-sym (l ∷ b) [] p = absurd p
-lines-sym (l ∷ b) (k ∷ c) p =
-    (record { number = sym (p .0 .number); placeCount = sym (p .0 .placeCount); start = sym (p .0 .start); moves = moves (l .moves) (k .moves) (p .0 .moves) }, lines-sym b c (p .1))
-  where
-    moves : (xs ys : List NamedMove) → Pairwise RespeltMove xs ys → Pairwise RespeltMove ys xs
-    moves [] [] q = tt
-    moves [] (y ∷ ys) q = absurd q
-    moves (x ∷ xs) [] q = absurd q
-    moves (x ∷ xs) (y ∷ ys) q = (record { event = one-sym (x .event) (y .event) (q .0 .event); pre = sym (q .0 .pre); post = sym (q .0 .post) }, moves xs ys (q .1))
-
 same-line : (l : NamedLine) → RespeltLine l l
-same-line l = record { number = refl; placeCount = refl; start = refl; moves = moves (l .moves) }
-  where
-    moves : (xs : List NamedMove) → Pairwise RespeltMove xs xs
-    moves [] = tt
-    moves (x ∷ xs) = (record { event = refl; pre = refl; post = refl }, moves xs)
+same-line l = record { number = refl; placeCount = refl; start = refl; moves = pairwise-same RespeltMove (l .moves) (λ x m. record { event = refl; pre = refl; post = refl }) }
 
 data Both (s t : List ℕ) : Type 0 where
   bad : (l : ℕ) → readSheet s ≡ refused (refuse 15 l 0) → readSheet t ≡ refused (refuse 15 l 0) → Both s t
@@ -167,7 +132,7 @@ module _ (s t : List ℕ) (short : length s ≤ 32768) (too : length t ≤ 32768
           let w = next-opens s n b l rest (drop next s) o u in
           ih (b ++ (l ∷ [])) (c ++ (l ∷ [])) (drop next s) (simp length-append (omega arith)) u
           (opens-next t n c l rest (drop next s) r (omega (arith, same-size b c p)) (good-again b c l l p (same-line l) (w .1)) (w .2))
-          (snoc-lines b c l l p (same-line l))
+          (pairwise-snoc RespeltLine b c l l p (same-line l))
       go (misses e f) ih =
           bad (length b + 2) (bad-loaded s (length b + 2) (line short n b rest o (λ w. omega (arith, w .0, q)) f))
           (subst (λ (m : ℕ). readSheet t ≡ refused (refuse 15 (m + 2) 0)) (sym (same-size b c p))
@@ -191,8 +156,8 @@ module _ (s t : List ℕ) (r : RespeltSheet s t) where
         most = r .begins .most;
         few = omega (arith, r .begins .few, same-size (r .board) (r .others) (r .respelt));
         good = λ k l a.
-            let w = at-other RespeltLine (r .board) (r .others) (r .respelt) k l a in
-            good-again (take k (r .board)) (take k (r .others)) (w .0) l (take-lines k (r .board) (r .others) (r .respelt)) (w .2) (r .begins .good k (w .0) (w .1));
+            let (x, i, z) = pairwise-at RespeltLine (r .others) (r .board) (lines-sym (r .board) (r .others) (r .respelt)) k l a in
+            good-again (take k (r .board)) (take k (r .others)) x l (pairwise-take RespeltLine k (r .board) (r .others) (r .respelt)) (line-sym l x z) (r .begins .good k x i);
         bytes = r .bytes;
       }
 

@@ -7,7 +7,6 @@ use mathlib.Core.Bool.{not}
 use mathlib.Core.List.{List, [], _∷_, _++_}
 use mathlib.Core.Option.{some, Option·map, Option·some-injective, Option·none-ne-some}
 use lib.Dec.{T, eqb, eqb→eq}
-use lib.ListN.{length}
 use Rattle.model.specs.Lists.{At, Pairwise, first, every, index, isEmpty}
 use Rattle.model.specs.Product.{Move, effective}
 use Rattle.model.specs.Bytes.{Name, Letter, OneEvent, sameName}
@@ -15,6 +14,7 @@ use Rattle.model.specs.Sheet.{NamedMove, NamedLine, Board}
 use Rattle.model.specs.Board.{moveOn, startPlaces, splitNames, runNames, runBoard}
 use Rattle.model.specs.Spelling.{SameButCase, RespeltMove, RespeltLine}
 use Rattle.model.proofs.Laws.{dec, T-true, T-false, contra, eqb-of, neqb}
+use Rattle.model.proofs.Pairs.{pairwise-map, pairwise-length, pairwise-snoc}
 use Rattle.model.proofs.OneEvent.{one-case, case-one, both-test, stays}
 use Rattle.model.proofs.Together.{SameMoves, same-effective, same-run}
 
@@ -40,14 +40,8 @@ moves-alike (x ∷ xs) (y ∷ ys) e f o (q, p) = go (dec (sameName f (y .event))
 
 same-each : (b c : Board) → Pairwise RespeltLine b c → (e f : Name) → OneEvent e f → SameMoves moveOn moveOn b c e f
 unfolding moveOn
-same-each b c p e f o = record { one-each = size b c p; each = each b c p }
+same-each b c p e f o = record { one-each = pairwise-length RespeltLine b c p; each = each b c p }
   where
-    size : (b c : Board) → Pairwise RespeltLine b c → length b ≡ length c
-    size [] [] p = refl
-    size [] (k ∷ c) p = absurd p
-    size (l ∷ b) [] p = absurd p
-    size (l ∷ b) (k ∷ c) p = ap suc (size b c (p .1))
-
     each : (b c : Board) → Pairwise RespeltLine b c → (i : ℕ) (l k : NamedLine) → At b i l → At c i k → moveOn l e ≡ moveOn k f
     each [] c p i l k x y = absurd (Option·none-ne-some l x)
     each (m ∷ b) [] p i l k x y = absurd p
@@ -64,13 +58,7 @@ starts-alike (l ∷ b) [] p = absurd p
 starts-alike (l ∷ b) (k ∷ c) p = λ i. p .0 .start i ∷ starts-alike b c (p .1) i
 
 snoc-one : (w v : Name) (b d : ℕ) → OneEvent w v → SameButCase b d → OneEvent (w ++ (b ∷ [])) (v ++ (d ∷ []))
-snoc-one w v b d o q = case-one (w ++ (b ∷ [])) (v ++ (d ∷ [])) (go w v (one-case w v o))
-  where
-    go : (w v : Name) → Pairwise SameButCase w v → Pairwise SameButCase (w ++ (b ∷ [])) (v ++ (d ∷ []))
-    go [] [] p = (q, tt)
-    go [] (y ∷ v) p = absurd p
-    go (x ∷ w) [] p = absurd p
-    go (x ∷ w) (y ∷ v) p = (p .0, go w v (p .1))
+snoc-one w v b d o q = case-one (w ++ (b ∷ [])) (v ++ (d ∷ [])) (pairwise-snoc SameButCase w v b d (one-case w v o) q)
 
 not-letter : ¬ Letter 10
 not-letter (inl l) = omega (arith, l .0)
@@ -119,12 +107,6 @@ module _ (b c : Board) (p : Pairwise RespeltLine b c) where
   index-alike (e ∷ es) [] q = absurd q
   index-alike (e ∷ es) (f ∷ fs) q = rw (known-alike e f (q .0), index-alike es fs (q .1)) refl
 
-  pairs : (es fs : List Name) → Pairwise OneEvent es fs → Pairwise (SameMoves moveOn moveOn b c) es fs
-  pairs [] [] q = tt
-  pairs [] (f ∷ fs) q = absurd q
-  pairs (e ∷ es) [] q = absurd q
-  pairs (e ∷ es) (f ∷ fs) q = (same-each b c p e f (q .0), pairs es fs (q .1))
-
   empty-alike : (w v : List ℕ) → Pairwise SameButCase w v → isEmpty w ≡ isEmpty v
   unfolding isEmpty
   empty-alike [] [] q = refl
@@ -135,7 +117,7 @@ module _ (b c : Board) (p : Pairwise RespeltLine b c) where
   names-alike : (es fs : List Name) (w v : List ℕ) → Pairwise OneEvent es fs → OneEvent w v → runNames b es w ≡ runNames c fs v
   unfolding runNames
   names-alike es fs w v q o =
-      rw (index-alike es fs q, every-alike es fs q, empty-alike w v (one-case w v o), starts-alike b c p, same-run moveOn moveOn b c es fs (pairs es fs q) (startPlaces c)) refl
+      rw (index-alike es fs q, every-alike es fs q, empty-alike w v (one-case w v o), starts-alike b c p, same-run moveOn moveOn b c es fs (pairwise-map es fs (same-each b c p) q) (startPlaces c)) refl
 
   pub boards-alike : (t u : List ℕ) → OneEvent t u → runBoard b t ≡ runBoard c u
   boards-alike t u o =

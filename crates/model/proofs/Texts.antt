@@ -19,6 +19,7 @@ use Rattle.model.specs.Table.{Begins, Fine, Reads}
 use Rattle.model.specs.Demands.{Spells}
 use Rattle.model.proofs.Laws.{dec}
 use Rattle.model.proofs.Positions.{at-mem, at-getD}
+use Rattle.model.proofs.Pairs.{pairwise-at}
 use Rattle.model.proofs.Counting.{count-some, count-none}
 use Rattle.model.proofs.OneEvent.{one-sym, one-length}
 use Rattle.model.proofs.Chains.{Each, Proper, each-map, each-all, all-each, begun, begins}
@@ -173,12 +174,6 @@ step-line f [] rest k t a = absurd (Option·none-ne-some t a)
 step-line f (u ∷ ts) rest zero t a = ap (λ (x : Transition). some (f x)) (Option·some-injective u t a)
 step-line f (u ∷ ts) rest (suc k) t a = step-line f ts rest k t a
 
-respelt-at : (ls ks : List Line) → Pairwise Respelt ls ks → (k : ℕ) (l : Line) → At ls k l → (x : Line) × Respelt l x × At ks k x
-respelt-at [] ks p k l a = absurd (Option·none-ne-some l a)
-respelt-at (y ∷ ls) [] p k l a = absurd p
-respelt-at (y ∷ ls) (x ∷ ks) p zero l a = (x, subst (λ (z : Line). Respelt z x) (Option·some-injective y l a) (p .0), refl)
-respelt-at (y ∷ ls) (x ∷ ks) p (suc k) l a = respelt-at ls ks (p .1) k l a
-
 pub line-of : (s : List ℕ) (v : Input) (r : Reads s v) (k : ℕ) (t : Transition) → At (v .transitions) k t
     → (w : Name) × Spells (v .names) w (t .event) × At (r .lines) (k + 2) (step (t .source) w (t .target))
 unfolding linesWith
@@ -188,7 +183,7 @@ line-of s v r k t a =
     let b : At (linesWith (l .start) v) (k + 2) (step (t .source) e (t .target)) =
     rw (add-two k)
     (step-line (λ (x : Transition). step (x .source) (getD (v .names) (x .event) []) (x .target)) (v .transitions) (map (λ (m : Machine). machine (m .places)) (v .machines)) k t a) in
-    let (x, (w, o, q), c) = respelt-at (linesWith (l .start) v) (r .lines) (l .lines) (k + 2) (step (t .source) e (t .target)) b in
+    let (x, c, (w, o, q)) = pairwise-at Respelt (linesWith (l .start) v) (r .lines) (l .lines) (k + 2) (step (t .source) e (t .target)) b in
     let low = l .limits .transitions t (at-mem (v .transitions) k t a) .event in
     (w, (e, at-getD (v .names) (t .event) [] low, one-sym e w o), subst (At (r .lines) (k + 2)) q c)
 

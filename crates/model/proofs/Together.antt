@@ -3,7 +3,7 @@ use Prim.Native.Nat.{ℕ, zero, suc, _<_}
 use native.Mathlib.Omega.{arith}
 use mathlib.Core.Path.{_≡_, refl, ap, sym, _∙_, subst}
 use mathlib.Core.Bool.{Bool, true, false, cond}
-use mathlib.Core.List.{List, [], _∷_, List·Memᴰ, List·Memᴰ·head, List·Memᴰ·tail}
+use mathlib.Core.List.{List, [], _∷_}
 use mathlib.Core.Option.{Option, none, some, Option·some-injective, Option·none-ne-some, Option·some-ne-none}
 use lib.Dec.{T}
 use lib.ListN.{length, getD}
@@ -198,14 +198,3 @@ module _ {M N D E : Type 0} (f : M → D → Option Move) (g : N → E → Optio
           run-stops f ms qs d ds h ∙ ap (λ (k : ℕ). record { ran = 0; blocked = some k; places = qs }) (same-blocker ms ns d e qs here)
           ∙ sym (run-stops g ns qs e es (sym (same-step ms ns d e qs here) ∙ h))
       go (some rs) h ih = run-goes f ms qs rs d ds h ∙ ap oneMore (ih rs) ∙ sym (run-goes g ns qs rs e es (sym (same-step ms ns d e qs here) ∙ h))
-
--- each event by itself
-pub pairwise-same : {E : Type 0} (R : E → E → Type 0) (es : List E) → ((e : E) → List·Memᴰ e es → R e e) → Pairwise R es es
-pairwise-same R [] h = tt
-pairwise-same R (e ∷ es) h = (h e (List·Memᴰ·head refl), pairwise-same R es (λ d i. h d (List·Memᴰ·tail i)))
-
-pub pairwise-map : {A B : Type 0} {R S : A → B → Type 0} (xs : List A) (ys : List B) → ((x : A) (y : B) → R x y → S x y) → Pairwise R xs ys → Pairwise S xs ys
-pairwise-map [] [] f h = tt
-pairwise-map [] (y ∷ ys) f h = absurd h
-pairwise-map (x ∷ xs) [] f h = absurd h
-pairwise-map (x ∷ xs) (y ∷ ys) f (a, h) = (f x y a, pairwise-map xs ys f h)
