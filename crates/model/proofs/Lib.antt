@@ -73,6 +73,10 @@ pub mod Merging
 pub mod MergeResult
 pub mod MergedText
 pub mod Merges
+-- the quotation: amounts, their rebate and their bytes; numbers that pass a test; the lines, their bytes, and what request 6 says
+pub mod Cents
+pub mod SignedNumerals
+pub mod Rising
 -- spelling: sheets respelt; names that are one event in other words, and texts respelt; a text and a sheet that are
 pub mod SheetsAlike
 pub mod SheetSpellings

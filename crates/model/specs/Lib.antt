@@ -11,12 +11,15 @@ pub mod Text
 pub mod Sheet
 pub mod Table
 pub mod Merging
+pub mod Cents
+pub mod Quotation
 pub mod Services
 pub mod Board
 pub mod BoardTable
 pub mod Printed
 pub mod Demands
 pub mod Merged
+pub mod Quoted
 pub mod Spelling
 pub mod Examples
 pub mod Starts
