@@ -77,6 +77,10 @@ pub mod Merges
 pub mod Cents
 pub mod SignedNumerals
 pub mod Rising
+pub mod Charges
+pub mod Totals
+pub mod Longest
+pub mod Quotes
 -- spelling: sheets respelt; names that are one event in other words, and texts respelt; a text and a sheet that are
 pub mod SheetsAlike
 pub mod SheetSpellings
