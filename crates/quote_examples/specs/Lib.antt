@@ -1,0 +1,2 @@
+-- Quotations.
+pub mod Examples

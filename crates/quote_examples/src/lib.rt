@@ -1,0 +1,1 @@
+// No code: quotations, computed by the definitions of the model (specs/Examples). Apart from the model, since each of its must-fail edits would compute them again.
