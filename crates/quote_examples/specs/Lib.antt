@@ -1,2 +1,4 @@
 -- Quotations.
 pub mod Examples
+-- the longest there is
+pub mod Longest

@@ -1,0 +1,2 @@
+-- The text with the longest quotation is read as its value.
+pub mod Longest
