@@ -15,7 +15,7 @@ use Rattle.lexer.specs.declared.Word.{Word}
 use Rattle.lexer.specs.declared.Word.the-variants.{Missing, Found}
 use Rattle.lexer.proofs.Answers.{literal-missing, literal-got}
 use Rattle.command_line.specs.declared.Service.{Service}
-use Rattle.command_line.specs.declared.Service.the-variants.{Check, Steps, Name, Run, Thin, Merge, Sheet, Board, Help, Explain, Unknown}
+use Rattle.command_line.specs.declared.Service.the-variants.{Check, Steps, Name, Run, Thin, Merge, Quote, Sheet, Board, Help, Explain, Unknown}
 use Rattle.command_line.specs.Words.{sameWord, serviceSaid}
 
 -- ---- the same bytes
@@ -71,8 +71,11 @@ module _ (w : List ℕ) where
   abbrev pub past-sheet : Service
   past-sheet = cond (sameWord w (bytes "board")) Board past-board
 
+  abbrev pub past-quote : Service
+  past-quote = cond (sameWord w (bytes "sheet")) Sheet past-sheet
+
   abbrev pub past-merge : Service
-  past-merge = cond (sameWord w (bytes "sheet")) Sheet past-sheet
+  past-merge = cond (sameWord w (bytes "quote")) Quote past-quote
 
   abbrev pub past-thin : Service
   past-thin = cond (sameWord w (bytes "merge")) Merge past-merge

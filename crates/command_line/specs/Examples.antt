@@ -1,4 +1,4 @@
--- What the program answers on the plan Y, on a ring that is merged, and on the sheet of Y, by computation.
+-- What the program answers on the plan Y, on a ring that is merged and quoted, and on the sheet of Y, by computation.
 use mathlib.Core.Path.{_≡_, refl}
 use mathlib.Core.List.{List, [], _∷_, flatMap, flatten}
 use mathlib.Core.Option.{none, some, orElse}
@@ -7,14 +7,16 @@ use Prim.Native.String.{String, _++_}
 use Rattle.model.specs.Lists.{exists, every, first, index, count, satisfying, isSome, isEmpty, numbers, elem, lowest}
 use Rattle.model.specs.TransitionSystem.{leads, declared, transitionRefusal, transitionsRefusal, unusedEvent, exits, withTarget, grown, reached, unreachableState, systemRefusal}
 use Rattle.model.specs.Product.{moveFrom, both, oneMore, inAlphabet, effective, fire, fireAll, productStep, blocker, runFrom}
-use Rattle.model.specs.Machine.{placeIn, places, crosses, move, duplicateState, unplacedState, transitionsOf, enters, allOrNone, uniform, nonuniformEvent, ineffectiveEvent, inPre, ready, common, excited, openState, openEvent, closureRefusal, machineRefusal, machinesRefusal, coverRefusal}
+use Rattle.model.specs.Machine.{placeIn, places, crosses, move, duplicateState, unplacedState, transitionsOf, enters, allOrNone, uniform, nonuniformEvent, ineffectiveEvent, inPre, ready, common, excited, openState, openEvent, closureRefusal, machineRefusal, machinesRefusal, coverRefusal, select, suffices, tryDrop, thinBelow, keptMarks}
 use Rattle.model.specs.Bytes.{bytes, isDigit, isLetter, isCapital, lower, isNameByte, isFigure, isName, digits, numeral, numeralUpTo}
 use Rattle.model.specs.Form.{isMachineLine, isStepLine, startGiven, statesLine, spacedName, eventsLine, stepLine, spacedFigure, place, machineLine, lineAfter}
 use Rattle.model.specs.Text.{eventNumber, valueOf, distinct, inLimit, isDeclared, ended, lineThen, linesFrom, read, lineTwo, nameAt}
 use Rattle.model.specs.Sheet.{addMove, movesBelow, sheetLine, sheetLines, moveBytes, writtenMove, writtenLine, writtenCount, writtenSheet, boardOf, sheet, countForm, moveForm, headForm, lineForm}
 use Rattle.model.specs.Board.{isGoodMove, addName, addNames, namesOn, isGoodLine, machineThen, machinesFrom, countThen, readSheet, moveOn, startPlaces, splitNames, runNames}
 use Rattle.model.specs.Merging.{removed, mergePlaces, mergeMachine, mergeIn, placeCount, mergeable, partner, lowerPlace, mergeWith, mergeLower, mergeFirst, mergeTimes, mergedBelow, merged, mergedInput}
-use Rattle.model.specs.Printed.{printedBy, fitting, spaced, printedCheck, printedMerge, nameLine, printedName, ranWord, placesWord, ranLine, printedRun, printedSheet, printedBoard}
+use Rattle.model.specs.Cents.{halfCent, rebate, rebated, sum, signedNumeral}
+use Rattle.model.specs.Quotation.{machinePrice, wirePrice, creditPrice, isKept, sharers, machineCharge, wireCharge, creditCharge, chosen, machineCharges, wireCharges, creditCharges, charges, writtenItem, writtenCharge, total, writtenTotal, writtenCharges, quotation}
+use Rattle.model.specs.Printed.{printedBy, fitting, spaced, printedCheck, printedMerge, printedQuote, nameLine, printedName, ranWord, placesWord, ranLine, printedRun, printedSheet, printedBoard}
 use Rattle.model.specs.Services.{asFarAs7, asFarAs10, asFarAs12, name, runEvents, printed, writtenAnswer, writtenRefusal}
 use Rattle.model.specs.Examples.{Y, Y0, Y1}
 use Rattle.sheet_examples.specs.Examples.{ySheet}
@@ -83,6 +85,24 @@ unfolding exists every first index count satisfying isSome isEmpty numbers elem 
     mergeable partner lowerPlace mergeWith mergeLower mergeFirst mergeTimes mergedBelow merged mergedInput printedBy fitting printedMerge asFarAs7 asFarAs10 asFarAs12 printed writtenAnswer
     writtenRefusal serviceSaid isNumeral numberSaid sizeSaid answerBy answerTo
 answers-merged = record { fewer = refl; short = refl; two-sizes = refl; same = refl }
+
+-- Of the ring machine 0 alone is kept, with three places; the other two are credited, and nothing is wired.
+pub record AnswersQuoted (r y : List ℕ) : Type 0 where
+  pub on-y : answerTo (bytes "quote" ∷ []) y ≡ some (bytes "(line machine 0 40028)\n(line machine 1 40028)\n(line wire home 618)\n(total 80674)\n")
+  pub fits : answerTo (bytes "quote" ∷ bytes "81" ∷ []) y ≡ answerTo (bytes "quote" ∷ []) y
+  pub short : answerTo (bytes "quote" ∷ bytes "80" ∷ []) y ≡ some (bytes "(refused 13 81 0)\n")
+  pub two-sizes : answerTo (bytes "quote" ∷ bytes "1" ∷ bytes "2" ∷ []) y ≡ none
+  pub credited : answerTo (bytes "quote" ∷ []) r ≡ some (bytes "(line machine 0 40202)\n(line credit 1 -4535)\n(line credit 2 -4535)\n(total 31132)\n")
+
+pub answers-quoted : AnswersQuoted (bytes ring) (bytes (Y ++ Y0 ++ Y1))
+unfolding exists every first index count satisfying isSome isEmpty numbers elem lowest orElse flatMap flatten leads declared transitionRefusal transitionsRefusal
+    unusedEvent exits withTarget grown reached unreachableState systemRefusal inAlphabet effective placeIn places crosses move duplicateState unplacedState transitionsOf enters allOrNone uniform nonuniformEvent
+    ineffectiveEvent inPre ready common excited openState openEvent closureRefusal machineRefusal machinesRefusal coverRefusal select suffices tryDrop thinBelow keptMarks isDigit isLetter isCapital lower
+    isNameByte isFigure isName digits numeral numeralUpTo isMachineLine isStepLine startGiven statesLine spacedName eventsLine stepLine spacedFigure place machineLine lineAfter eventNumber valueOf
+    distinct inLimit isDeclared ended lineThen linesFrom read placeCount halfCent rebate rebated sum signedNumeral machinePrice wirePrice creditPrice isKept sharers machineCharge wireCharge creditCharge
+    chosen machineCharges wireCharges creditCharges charges writtenItem writtenCharge total writtenTotal writtenCharges quotation printedBy fitting printedQuote asFarAs7 asFarAs10 asFarAs12
+    writtenRefusal serviceSaid isNumeral numberSaid sizeSaid answerBy answerTo
+answers-quoted = record { on-y = refl; fits = refl; short = refl; two-sizes = refl; credited = refl }
 
 pub record AnswersOnSheet (y : List ℕ) : Type 0 where
   pub written : answerTo (bytes "sheet" ∷ []) y ≡ some y

@@ -7,9 +7,9 @@ use Rattle.model.specs.Bytes as B
 use Rattle.model.specs.Text.{Input}
 use Rattle.model.specs.Services.{asFarAs7, printed}
 use Rattle.model.specs.BoardTable.{ended}
-use Rattle.model.specs.Printed.{printedCheck, printedSteps, printedName, printedRun, printedThin, printedMerge, printedSheet, printedBoard}
+use Rattle.model.specs.Printed.{printedCheck, printedSteps, printedName, printedRun, printedThin, printedMerge, printedQuote, printedSheet, printedBoard}
 use Rattle.command_line.specs.declared.Service.{Service}
-use Rattle.command_line.specs.declared.Service.the-variants.{Check, Steps, Name, Run, Thin, Merge, Sheet, Board, Help, Explain, Unknown}
+use Rattle.command_line.specs.declared.Service.the-variants.{Check, Steps, Name, Run, Thin, Merge, Quote, Sheet, Board, Help, Explain, Unknown}
 use Rattle.command_line.specs.Words.{serviceSaid, numberSaid, eventSaid}
 
 -- the size that a word says, or the usual one where there is no word
@@ -51,6 +51,7 @@ answerBy Name ws s = Option·map (printedName s) (oneEventSaid (namesOf (asFarAs
 answerBy Run ws s = Option·map (printedRun s) (eventsSaid (namesOf (asFarAs7 s)) ws)
 answerBy Thin ws s = answerThin ws s
 answerBy Merge ws s = Option·map (printedMerge s) (sizeSaid 32768 ws)
+answerBy Quote ws s = Option·map (printedQuote s) (sizeSaid 32768 ws)
 answerBy Sheet ws s = Option·map (printedSheet s) (sizeSaid 32768 ws)
 answerBy Board ws s = some (printedBoard s (flatMap ended ws))
 answerBy Help ws s = none

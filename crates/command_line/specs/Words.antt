@@ -10,7 +10,7 @@ use Rattle.model.specs.Bytes as B
 use Rattle.model.specs.Bytes.{bytes, isDigit, isNameByte, isName, decimal}
 use Rattle.model.specs.Text.{eventNumber}
 use Rattle.command_line.specs.declared.Service.{Service}
-use Rattle.command_line.specs.declared.Service.the-variants.{Check, Steps, Name, Run, Thin, Merge, Sheet, Board, Help, Explain, Unknown}
+use Rattle.command_line.specs.declared.Service.the-variants.{Check, Steps, Name, Run, Thin, Merge, Quote, Sheet, Board, Help, Explain, Unknown}
 use Rattle.command_line.specs.declared.Said.{Said}
 use Rattle.command_line.specs.declared.Said.the-variants.{Neither, Number}
 
@@ -29,10 +29,11 @@ serviceSaid w =
     (cond (sameWord w (bytes "run")) Run
     (cond (sameWord w (bytes "thin")) Thin
     (cond (sameWord w (bytes "merge")) Merge
+    (cond (sameWord w (bytes "quote")) Quote
     (cond (sameWord w (bytes "sheet")) Sheet
     (cond (sameWord w (bytes "board")) Board
     (cond (sameWord w (bytes "help")) Help
-    (cond (sameWord w (bytes "explain")) Explain Unknown)))))))))
+    (cond (sameWord w (bytes "explain")) Explain Unknown))))))))))
 
 -- one or more digits with no leading zero, 0 itself excepted
 unfoldable pub isNumeral : List ℕ → Bool

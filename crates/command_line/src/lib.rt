@@ -31,6 +31,7 @@ pub enum Service {
     Run,
     Thin,
     Merge,
+    Quote,
     Sheet,
     Board,
     Help,
@@ -64,6 +65,9 @@ fn service_said(word: &[u8]) -> Service
     }
     if same_word(word, b"merge") {
         return Service::Merge;
+    }
+    if same_word(word, b"quote") {
+        return Service::Quote;
     }
     if same_word(word, b"sheet") {
         return Service::Sheet;

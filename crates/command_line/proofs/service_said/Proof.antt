@@ -4,9 +4,9 @@ use mathlib.Core.Path.{_≡_, sym}
 use mathlib.Core.List.{List}
 use borrow.Author.Needs.{needs}
 use denote.Ref.{now}
-use Rattle.command_line.specs.declared.Service.the-variants.{Check, Steps, Name, Run, Thin, Merge, Sheet, Board, Help, Explain, Unknown}
+use Rattle.command_line.specs.declared.Service.the-variants.{Check, Steps, Name, Run, Thin, Merge, Quote, Sheet, Board, Help, Explain, Unknown}
 use Rattle.command_line.specs.Words.{serviceSaid}
-use Rattle.command_line.proofs.Spelling.{past-check, past-steps, past-name, past-run, past-thin, past-merge, past-sheet, past-board, past-help, none-tried, tried, goes-past}
+use Rattle.command_line.proofs.Spelling.{past-check, past-steps, past-name, past-run, past-thin, past-merge, past-quote, past-sheet, past-board, past-help, none-tried, tried, goes-past}
 use Rattle.command_line.proofs.service_said.Statement.{statement}
 use Rattle.command_line.proofs.service_said.Tie as tie
 
@@ -50,20 +50,26 @@ not-merge c = goes-past Merge (past-merge (word-6 c)) (c .before .same-word6 .en
 abbrev word-7 : tie.Else7 → List ℕ
 word-7 c = word-6 (c .before .before .before)
 
-not-sheet : (c : tie.Else7) → serviceSaid (word-7 c) ≡ past-sheet (word-7 c)
-not-sheet c = goes-past Sheet (past-sheet (word-7 c)) (c .before .same-word7 .ensures) (not-merge (c .before .before .before)) (c .if7 .left)
+not-quote : (c : tie.Else7) → serviceSaid (word-7 c) ≡ past-quote (word-7 c)
+not-quote c = goes-past Quote (past-quote (word-7 c)) (c .before .same-word7 .ensures) (not-merge (c .before .before .before)) (c .if7 .left)
 
 abbrev word-8 : tie.Else8 → List ℕ
 word-8 c = word-7 (c .before .before .before)
 
-not-board : (c : tie.Else8) → serviceSaid (word-8 c) ≡ past-board (word-8 c)
-not-board c = goes-past Board (past-board (word-8 c)) (c .before .same-word8 .ensures) (not-sheet (c .before .before .before)) (c .if8 .left)
+not-sheet : (c : tie.Else8) → serviceSaid (word-8 c) ≡ past-sheet (word-8 c)
+not-sheet c = goes-past Sheet (past-sheet (word-8 c)) (c .before .same-word8 .ensures) (not-quote (c .before .before .before)) (c .if8 .left)
 
 abbrev word-9 : tie.Else9 → List ℕ
 word-9 c = word-8 (c .before .before .before)
 
-not-help : (c : tie.Else9) → serviceSaid (word-9 c) ≡ past-help (word-9 c)
-not-help c = goes-past Help (past-help (word-9 c)) (c .before .same-word9 .ensures) (not-board (c .before .before .before)) (c .if9 .left)
+not-board : (c : tie.Else9) → serviceSaid (word-9 c) ≡ past-board (word-9 c)
+not-board c = goes-past Board (past-board (word-9 c)) (c .before .same-word9 .ensures) (not-sheet (c .before .before .before)) (c .if9 .left)
+
+abbrev word-10 : tie.Else10 → List ℕ
+word-10 c = word-9 (c .before .before .before)
+
+not-help : (c : tie.Else10) → serviceSaid (word-10 c) ≡ past-help (word-10 c)
+not-help c = goes-past Help (past-help (word-10 c)) (c .before .same-word10 .ensures) (not-board (c .before .before .before)) (c .if10 .left)
 
 slice-aggregate-same-word : tie.Need-slice-aggregate-same-word
 slice-aggregate-same-word c = search needs
@@ -140,7 +146,7 @@ same-word-requires-7 c κs = search needs
 returns-7 : tie.Need-returns-7
 returns-7 c =
     let e = c .before .before .before in
-    tried Sheet (past-sheet (word-6 e)) (c .before .same-word7 .ensures) (not-merge e) (c .if7 .taken)
+    tried Quote (past-quote (word-6 e)) (c .before .same-word7 .ensures) (not-merge e) (c .if7 .taken)
 
 slice-aggregate-same-word-8 : tie.Need-slice-aggregate-same-word-8
 slice-aggregate-same-word-8 c = search needs
@@ -151,7 +157,7 @@ same-word-requires-8 c κs = search needs
 returns-8 : tie.Need-returns-8
 returns-8 c =
     let e = c .before .before .before in
-    tried Board (past-board (word-7 e)) (c .before .same-word8 .ensures) (not-sheet e) (c .if8 .taken)
+    tried Sheet (past-sheet (word-7 e)) (c .before .same-word8 .ensures) (not-quote e) (c .if8 .taken)
 
 slice-aggregate-same-word-9 : tie.Need-slice-aggregate-same-word-9
 slice-aggregate-same-word-9 c = search needs
@@ -162,7 +168,7 @@ same-word-requires-9 c κs = search needs
 returns-9 : tie.Need-returns-9
 returns-9 c =
     let e = c .before .before .before in
-    tried Help (past-help (word-8 e)) (c .before .same-word9 .ensures) (not-board e) (c .if9 .taken)
+    tried Board (past-board (word-8 e)) (c .before .same-word9 .ensures) (not-sheet e) (c .if9 .taken)
 
 slice-aggregate-same-word-10 : tie.Need-slice-aggregate-same-word-10
 slice-aggregate-same-word-10 c = search needs
@@ -173,10 +179,21 @@ same-word-requires-10 c κs = search needs
 returns-10 : tie.Need-returns-10
 returns-10 c =
     let e = c .before .before .before in
-    tried Explain Unknown (c .before .same-word10 .ensures) (not-help e) (c .if10 .taken)
+    tried Help (past-help (word-9 e)) (c .before .same-word10 .ensures) (not-board e) (c .if10 .taken)
+
+slice-aggregate-same-word-11 : tie.Need-slice-aggregate-same-word-11
+slice-aggregate-same-word-11 c = search needs
+
+same-word-requires-11 : tie.Need-same-word-requires-11
+same-word-requires-11 c κs = search needs
 
 returns-11 : tie.Need-returns-11
-returns-11 c = sym (goes-past Explain Unknown (c .before .same-word10 .ensures) (not-help (c .before .before .before)) (c .if10 .left))
+returns-11 c =
+    let e = c .before .before .before in
+    tried Explain Unknown (c .before .same-word11 .ensures) (not-help e) (c .if11 .taken)
+
+returns-12 : tie.Need-returns-12
+returns-12 c = sym (goes-past Explain Unknown (c .before .same-word11 .ensures) (not-help (c .before .before .before)) (c .if11 .left))
 
 pub service-said-spec : {M : Type 1} → statement M
 service-said-spec =
@@ -212,4 +229,7 @@ service-said-spec =
     slice-aggregate-same-word-10
     same-word-requires-10
     returns-10
-    returns-11)
+    slice-aggregate-same-word-11
+    same-word-requires-11
+    returns-11
+    returns-12)
