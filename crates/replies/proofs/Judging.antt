@@ -17,7 +17,7 @@ use Rattle.model.specs.Bytes.{bytes, decimal}
 use Rattle.model.specs.Cases.{tabled}
 use Rattle.model.proofs.Laws.{order}
 use Rattle.command_line.specs.declared.Service.{Service}
-use Rattle.command_line.specs.declared.Service.the-variants.{Check, Steps, Name, Run, Thin, Merge, Sheet, Board, Help, Explain, Unknown}
+use Rattle.command_line.specs.declared.Service.the-variants.{Check, Steps, Name, Run, Thin, Merge, Quote, Sheet, Board, Help, Explain, Unknown}
 use Rattle.command_line.specs.declared.Said.{Said}
 use Rattle.command_line.specs.declared.Said.the-variants.{Neither, Number}
 use Rattle.command_line.specs.Words.{sameWord, isNumeral, said, numberSaid}
@@ -151,7 +151,7 @@ module _ {s : List ℕ} {a : Service} where
 -- ---- all words
 
 -- the last key is that of no service
-known : (a : Service) → OneOf (0 ∷ 1 ∷ 2 ∷ 3 ∷ 4 ∷ 5 ∷ 6 ∷ 7 ∷ 8 ∷ 9 ∷ []) (tagOf the-type a) → isUnknown a ≡ false
+known : (a : Service) → OneOf (0 ∷ 1 ∷ 2 ∷ 3 ∷ 4 ∷ 5 ∷ 6 ∷ 7 ∷ 8 ∷ 9 ∷ 10 ∷ []) (tagOf the-type a) → isUnknown a ≡ false
 unfolding isUnknown
 known Check k = refl
 known Steps k = refl
@@ -159,11 +159,12 @@ known Name k = refl
 known Run k = refl
 known Thin k = refl
 known Merge k = refl
+known Quote k = refl
 known Sheet k = refl
 known Board k = refl
 known Help k = refl
 known Explain k = refl
-known Unknown k = absurd (miss (0 ∷ 1 ∷ 2 ∷ 3 ∷ 4 ∷ 5 ∷ 6 ∷ 7 ∷ 8 ∷ 9 ∷ []) 10 tt k)
+known Unknown k = absurd (miss (0 ∷ 1 ∷ 2 ∷ 3 ∷ 4 ∷ 5 ∷ 6 ∷ 7 ∷ 8 ∷ 9 ∷ 10 ∷ []) 11 tt k)
 
 module _ (s : List ℕ) {a : Service} (p : a ≡ serviceAsked (wordsIn s)) where
   wrong-as : cond (isUnknown a) 1 (wrongFrom a 0 (furtherWords (wordsIn s))) ≡ wrongWord (wordsIn s)
@@ -174,5 +175,5 @@ module _ (s : List ℕ) {a : Service} (p : a ≡ serviceAsked (wordsIn s)) where
   unfolding isUnknown
   first-wrong e = rw e at wrong-as
 
-  pub wrong-behind : OneOf (0 ∷ 1 ∷ 2 ∷ 3 ∷ 4 ∷ 5 ∷ 6 ∷ 7 ∷ 8 ∷ 9 ∷ []) (tagOf the-type a) → {r : ℕ} → r ≡ wrongFrom a 0 (furtherWords (wordsIn s)) → r ≡ wrongWord (wordsIn s)
+  pub wrong-behind : OneOf (0 ∷ 1 ∷ 2 ∷ 3 ∷ 4 ∷ 5 ∷ 6 ∷ 7 ∷ 8 ∷ 9 ∷ 10 ∷ []) (tagOf the-type a) → {r : ℕ} → r ≡ wrongFrom a 0 (furtherWords (wordsIn s)) → r ≡ wrongWord (wordsIn s)
   wrong-behind k {r} e = e ∙ (rw (known a k) at wrong-as)

@@ -10,7 +10,7 @@ use types.Run.{OneOf, miss}
 use lib.Dec.{eqb}
 use lib.ListN.{length, take, drop}
 use Rattle.command_line.specs.declared.Service.{Service}
-use Rattle.command_line.specs.declared.Service.the-variants.{Check, Steps, Name, Run, Thin, Merge, Sheet, Board, Help, Explain, Unknown}
+use Rattle.command_line.specs.declared.Service.the-variants.{Check, Steps, Name, Run, Thin, Merge, Quote, Sheet, Board, Help, Explain, Unknown}
 use Rattle.replies.specs.declared.Reply.{Reply}
 use Rattle.replies.specs.declared.Reply.the-variants as R
 use Rattle.command_line.specs.WordRow.{wordsIn, WordCut}
@@ -42,8 +42,8 @@ explains {s} {end} c h e = ap R.Explanation e ∙ sym (ap explanationAsked (firs
 
 -- ---- all words
 
--- the first eight serve
-serves-by : (a : Service) (ws : List (List ℕ)) → OneOf (0 ∷ 1 ∷ 2 ∷ 3 ∷ 4 ∷ 5 ∷ 6 ∷ 7 ∷ []) (tagOf the-type a) → R.Service ≡ replyBy a ws
+-- the first nine serve
+serves-by : (a : Service) (ws : List (List ℕ)) → OneOf (0 ∷ 1 ∷ 2 ∷ 3 ∷ 4 ∷ 5 ∷ 6 ∷ 7 ∷ 8 ∷ []) (tagOf the-type a) → R.Service ≡ replyBy a ws
 unfolding replyBy
 serves-by Check ws k = refl
 serves-by Steps ws k = refl
@@ -51,11 +51,12 @@ serves-by Name ws k = refl
 serves-by Run ws k = refl
 serves-by Thin ws k = refl
 serves-by Merge ws k = refl
+serves-by Quote ws k = refl
 serves-by Sheet ws k = refl
 serves-by Board ws k = refl
-serves-by Help ws k = absurd (miss (0 ∷ 1 ∷ 2 ∷ 3 ∷ 4 ∷ 5 ∷ 6 ∷ 7 ∷ []) 8 tt k)
-serves-by Explain ws k = absurd (miss (0 ∷ 1 ∷ 2 ∷ 3 ∷ 4 ∷ 5 ∷ 6 ∷ 7 ∷ []) 9 tt k)
-serves-by Unknown ws k = absurd (miss (0 ∷ 1 ∷ 2 ∷ 3 ∷ 4 ∷ 5 ∷ 6 ∷ 7 ∷ []) 10 tt k)
+serves-by Help ws k = absurd (miss (0 ∷ 1 ∷ 2 ∷ 3 ∷ 4 ∷ 5 ∷ 6 ∷ 7 ∷ 8 ∷ []) 9 tt k)
+serves-by Explain ws k = absurd (miss (0 ∷ 1 ∷ 2 ∷ 3 ∷ 4 ∷ 5 ∷ 6 ∷ 7 ∷ 8 ∷ []) 10 tt k)
+serves-by Unknown ws k = absurd (miss (0 ∷ 1 ∷ 2 ∷ 3 ∷ 4 ∷ 5 ∷ 6 ∷ 7 ∷ 8 ∷ []) 11 tt k)
 
 module _ (s : List ℕ) {wrong : ℕ} (q : wrong ≡ wrongWord (wordsIn s)) where
   reply-as : cond (eqb wrong 0) (replyBy (serviceAsked (wordsIn s)) (furtherWords (wordsIn s))) (R.Usage wrong) ≡ replyAsked (wordsIn s)
@@ -75,7 +76,7 @@ module _ (s : List ℕ) {wrong : ℕ} (q : wrong ≡ wrongWord (wordsIn s)) wher
     unfolding replyBy
     unknown e = reply-of e
 
-    pub serves : OneOf (0 ∷ 1 ∷ 2 ∷ 3 ∷ 4 ∷ 5 ∷ 6 ∷ 7 ∷ []) (tagOf the-type a) → R.Service ≡ replyAsked (wordsIn s)
+    pub serves : OneOf (0 ∷ 1 ∷ 2 ∷ 3 ∷ 4 ∷ 5 ∷ 6 ∷ 7 ∷ 8 ∷ []) (tagOf the-type a) → R.Service ≡ replyAsked (wordsIn s)
     serves k = serves-by a (furtherWords (wordsIn s)) k ∙ reply-of refl
 
     -- the further words are those from a place on

@@ -11,7 +11,7 @@ use Rattle.model.specs.Bytes.{Name, decimal}
 use Rattle.model.specs.Text.{eventNumber}
 use Rattle.model.specs.Services.{asFarAs7}
 use Rattle.model.specs.BoardTable.{ended}
-use Rattle.model.specs.Printed.{printedCheck, printedSteps, printedName, printedRun, printedThin, printedMerge, printedSheet, printedBoard}
+use Rattle.model.specs.Printed.{printedCheck, printedSteps, printedName, printedRun, printedThin, printedMerge, printedQuote, printedSheet, printedBoard}
 use Rattle.command_line.specs.declared.Service.{Service}
 use Rattle.command_line.specs.declared.Service.the-variants as S
 use Rattle.replies.specs.declared.Reply.{Reply}
@@ -115,6 +115,7 @@ judged S.Name ws s e = mapped (printedName s) (name-judged (namesOf (asFarAs7 s)
 judged S.Run ws s e = mapped (printedRun s) (run-judged (namesOf (asFarAs7 s)) 0 ws)
 judged S.Thin ws s e = thin-judged ws s
 judged S.Merge ws s e = mapped (printedMerge s) (size-judged S.Merge (λ w. refl) (λ k w. rw (ne-eqb (suc k) 0 (λ z. omega arith))) refl 32768 ws)
+judged S.Quote ws s e = mapped (printedQuote s) (size-judged S.Quote (λ w. refl) (λ k w. rw (ne-eqb (suc k) 0 (λ z. omega arith))) refl 32768 ws)
 judged S.Sheet ws s e = mapped (printedSheet s) (size-judged S.Sheet (λ w. refl) (λ k w. rw (ne-eqb (suc k) 0 (λ z. omega arith))) refl 32768 ws)
 judged S.Board ws s e = right (printedBoard s (flatMap ended ws)) refl (board-judged 0 ws)
 judged S.Help ws s e = absurd (no-help ws e)
@@ -162,6 +163,7 @@ unserved (w ∷ ws) s h = go (serviceSaid w) h
     go S.Run n = said-nothing (judged S.Run ws s refl) (λ z. n (as-right _ z))
     go S.Thin n = said-nothing (judged S.Thin ws s refl) (λ z. n (as-right _ z))
     go S.Merge n = said-nothing (judged S.Merge ws s refl) (λ z. n (as-right _ z))
+    go S.Quote n = said-nothing (judged S.Quote ws s refl) (λ z. n (as-right _ z))
     go S.Sheet n = said-nothing (judged S.Sheet ws s refl) (λ z. n (as-right _ z))
     go S.Board n = said-nothing (judged S.Board ws s refl) (λ z. n (as-right _ z))
     go S.Help n = refl

@@ -30,6 +30,8 @@ pub record RepliesToWords : Type 0 where
   pub each-name : map refusalSaid refusalNames ≡ 1 ∷ 2 ∷ 3 ∷ 4 ∷ 5 ∷ 6 ∷ 7 ∷ 8 ∷ 9 ∷ 10 ∷ 11 ∷ 12 ∷ 13 ∷ 14 ∷ 15 ∷ []
   pub no-merge : replyAsked (bytes "merge" ∷ bytes "ready" ∷ []) ≡ R.Usage 2
   pub merged : replyAsked (bytes "merge" ∷ bytes "144" ∷ []) ≡ R.Service
+  pub no-quote : replyAsked (bytes "quote" ∷ bytes "ready" ∷ []) ≡ R.Usage 2
+  pub quoted : replyAsked (bytes "quote" ∷ bytes "81" ∷ []) ≡ R.Service
   pub no-size : replyAsked (bytes "sheet" ∷ bytes "ready" ∷ []) ≡ R.Usage 2
   pub any-name : replyAsked (bytes "board" ∷ bytes "Ready" ∷ [] ∷ []) ≡ R.Service
   pub served : replyAsked (bytes "run" ∷ bytes "ready" ∷ bytes "1" ∷ []) ≡ R.Service
@@ -59,6 +61,8 @@ replies =
       each-name = refl;
       no-merge = refl;
       merged = refl;
+      no-quote = refl;
+      quoted = refl;
       no-size = refl;
       any-name = refl;
       served = refl;

@@ -5,7 +5,7 @@ use mathlib.Core.List.{List, [], _∷_}
 use lib.Dec.{leb, eqb}
 use Rattle.model.specs.Bytes.{bytes, decimal}
 use Rattle.command_line.specs.declared.Service.{Service}
-use Rattle.command_line.specs.declared.Service.the-variants.{Check, Steps, Name, Run, Thin, Merge, Sheet, Board, Help, Explain, Unknown}
+use Rattle.command_line.specs.declared.Service.the-variants.{Check, Steps, Name, Run, Thin, Merge, Quote, Sheet, Board, Help, Explain, Unknown}
 use Rattle.replies.specs.declared.Reply.{Reply}
 use Rattle.replies.specs.declared.Reply.the-variants as R
 use Rattle.command_line.specs.Words.{sameWord, isNumeral, isNameWord}
@@ -60,6 +60,7 @@ takes Name k w = eqb k 0 && saysEvent w
 takes Run k w = saysEvent w
 takes Thin k w = false
 takes Merge k w = eqb k 0 && isNumeral w
+takes Quote k w = eqb k 0 && isNumeral w
 takes Sheet k w = eqb k 0 && isNumeral w
 takes Board k w = true
 takes Help k w = eqb k 0 && sameWord w (bytes "text")
@@ -74,6 +75,7 @@ leastWords Name = 1
 leastWords Run = 0
 leastWords Thin = 0
 leastWords Merge = 0
+leastWords Quote = 0
 leastWords Sheet = 0
 leastWords Board = 0
 leastWords Help = 0
@@ -92,6 +94,7 @@ isUnknown Name = false
 isUnknown Run = false
 isUnknown Thin = false
 isUnknown Merge = false
+isUnknown Quote = false
 isUnknown Sheet = false
 isUnknown Board = false
 isUnknown Help = false
@@ -118,6 +121,7 @@ replyBy Name ws = R.Service
 replyBy Run ws = R.Service
 replyBy Thin ws = R.Service
 replyBy Merge ws = R.Service
+replyBy Quote ws = R.Service
 replyBy Sheet ws = R.Service
 replyBy Board ws = R.Service
 replyBy Help ws = helpAsked ws

@@ -58,11 +58,17 @@ is-numeral-requires-4 c κs = search needs
 enum-told-9 : tie.Need-enum-told-9
 enum-told-9 c = search needs
 
+is-numeral-requires-5 : tie.Need-is-numeral-requires-5
+is-numeral-requires-5 c κs = search needs
+
 enum-told-10 : tie.Need-enum-told-10
 enum-told-10 c = search needs
 
 enum-told-11 : tie.Need-enum-told-11
 enum-told-11 c = search needs
+
+enum-told-12 : tie.Need-enum-told-12
+enum-told-12 c = search needs
 
 returns : tie.Need-returns
 unfolding takes
@@ -98,7 +104,7 @@ returns-8 c = rw (c .before .enum-told8 .given .1, c .is-numeral4 .ensures)
 
 returns-9 : tie.Need-returns-9
 unfolding takes
-returns-9 c = rw (c .enum-told9 .given .1)
+returns-9 c = rw (c .before .enum-told9 .given .1, c .is-numeral5 .ensures)
 
 returns-10 : tie.Need-returns-10
 unfolding takes
@@ -107,6 +113,10 @@ returns-10 c = rw (c .enum-told10 .given .1)
 returns-11 : tie.Need-returns-11
 unfolding takes
 returns-11 c = rw (c .enum-told11 .given .1)
+
+returns-12 : tie.Need-returns-12
+unfolding takes
+returns-12 c = rw (c .enum-told12 .given .1)
 
 pub takes-spec : {M : Type 1} → statement M
 takes-spec =
@@ -130,8 +140,10 @@ takes-spec =
     enum-told-8
     is-numeral-requires-4
     enum-told-9
+    is-numeral-requires-5
     enum-told-10
     enum-told-11
+    enum-told-12
     returns
     returns-2
     returns-3
@@ -142,4 +154,5 @@ takes-spec =
     returns-8
     returns-9
     returns-10
-    returns-11)
+    returns-11
+    returns-12)
