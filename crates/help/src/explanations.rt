@@ -122,7 +122,7 @@ fn explain_call(refusal: usize, first: &[u8], second: &[u8]) {
     match refusal {
         13 => put_filled(
             b"short sheet: what was lent is too short for the answer, which needs size %.\n\
-              Lend % bytes for a sheet, or % records for steps.\n",
+              Lend % bytes for a sheet or a quotation, or % records for steps.\n",
             first,
             second,
         ),

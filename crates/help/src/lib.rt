@@ -13,7 +13,7 @@ fn put_error(words: &[u8]) {
 
 fn put_usage() {
     put_error(
-        b"; usage: ./split [check [LENT] | steps [LENT] | name EVENT | run [EVENT..] | thin | merge [LENT] | sheet [LENT] | board [NAME..] | help [text] | explain REFUSAL [A [B]]] < TEXT or SHEET, or FILE\n",
+        b"; usage: ./split [check [LENT] | steps [LENT] | name EVENT | run [EVENT..] | thin | merge [LENT] | quote [LENT] | sheet [LENT] | board [NAME..] | help [text] | explain REFUSAL [A [B]]] < TEXT or SHEET, or FILE\n",
     );
 }
 
@@ -70,11 +70,11 @@ pub fn put_help() {
           \x20 ./split run [EVENT..]  runs the events in this order on the machines together\n\
           \x20 ./split thin           drops machines that add nothing, and lists those kept\n\
           \x20 ./split merge [LENT]   check's sheet, with places merged while 11 and 12 pass\n\
+          \x20 ./split quote [LENT]   the price of the split, thinned, in cents\n\
           \x20 ./split sheet [LENT]   of a sheet: its machines, written again as check does\n\
           \x20 ./split board [NAME..] of a sheet: runs the events of these names, as run does\n\
           \x20 ./split help [text]    this screen, as -h; with text: how a text is written\n\
           \x20 ./split explain REFUSAL [A [B]]  what it means, and what to do about it\n\
-          \n\
           EVENT is a name or a number from 0 as on line 2. A word with . or /, or -f FILE,\n\
           is the file to read. Status 0: answered, 1: refused, 2: neither. Also --version.\n\
           \n\
