@@ -1,10 +1,10 @@
-/* All eight services of the proved library on the text on standard input, from C or C++.
+/* All nine services of the proved library on the text on standard input, from C or C++.
  * examples/again builds and runs it. */
 #include "split.h"
 #include <stdio.h>
 
 /* One byte more than a text may have, so that a longer one is refused. */
-static uint8_t text[32769], sheet[32768], merged[32768], again[32768];
+static uint8_t text[32769], sheet[32768], merged[32768], quoted[32768], again[32768];
 static struct split_step steps[1024];
 
 static int refused(size_t number, size_t detail, size_t second)
@@ -53,6 +53,9 @@ int main(void)
 
     struct split_answer fewer = split_merge(text, len, merged, sizeof merged);
     printf("the sheet with places merged has %zu bytes\n", fewer.size);
+
+    struct split_answer priced = split_quote(text, len, quoted, sizeof quoted);
+    fwrite(quoted, 1, priced.size, stdout);
 
     struct split_answer loaded = split_sheet(sheet, checked.size, again, sizeof again);
     printf("the sheet is loaded and written again, %zu bytes\n", loaded.size);

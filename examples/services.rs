@@ -1,4 +1,4 @@
-//! All eight services of the proved library on the text on standard input, from Rust.
+//! All nine services of the proved library on the text on standard input, from Rust.
 //! examples/again builds and runs it.
 use std::io::{self, Read, Write};
 
@@ -45,6 +45,10 @@ fn main() -> io::Result<()> {
     let mut merged = [0; 32_768];
     let fewer = split::merge(&text, &mut merged);
     println!("the sheet with places merged has {} bytes", fewer.size);
+
+    let mut quoted = [0; 32_768];
+    let priced = split::quote(&text, &mut quoted);
+    io::stdout().write_all(&quoted[..priced.size])?;
 
     let mut again = [0; 32_768];
     let loaded = split::sheet(&sheet[..checked.size], &mut again);

@@ -1,4 +1,4 @@
-/* The splitter's eight services, proved: each answers and writes what crates/split_c/src/lib.rt
+/* The splitter's nine services, proved: each answers and writes what crates/split_c/src/lib.rt
  * promises, for any bytes. For C11 and C++11, and later; include/split.rs has the same for Rust.
  * include/board.h has the last two alone, for a program that has sheets only.
  *
@@ -19,9 +19,10 @@
  *     split_run     15,360    61,440
  *     split_thin    15,360    92,160
  *     split_merge   19,456    93,184
+ *     split_quote   19,456    93,184
  *     split_sheet    6,144     6,144
  *     split_board    7,168     6,144
- *     all eight     33,792    93,184
+ *     all nine      33,792    93,184
  *
  * Both are measured, not proved, and rounded up; tests/library/check measures again. Code is what
  * the library adds to a program that calls this service only, linked with --gc-sections, its
@@ -125,6 +126,11 @@ struct split_set split_thin(const uint8_t *text, size_t text_len);
  * pair on, and writes the merged split's sheet into the first bytes of out. 32,768 always suffice;
  * 13 has the size needed. */
 struct split_answer split_merge(const uint8_t *text, size_t text_len, uint8_t *out, size_t out_len);
+
+/* The quotation of the thinned split in cents, into the first bytes of out: a line for each machine
+ * that is kept, each event that two or more of these share and each machine that is dropped, then
+ * the total, which may be negative. 32,768 always suffice; 13 has the size needed. */
+struct split_answer split_quote(const uint8_t *text, size_t text_len, uint8_t *out, size_t out_len);
 
 /* Loads a sheet and writes it again, into the first bytes of out: the same bytes, if the sheet is
  * good. 32,768 always suffice; 13 has the size needed. Refused by 13 and 15 only. */

@@ -103,6 +103,7 @@ unsafe extern "C" {
     pub fn split_run(text: *const u8, text_len: usize, events: *const u8, events_len: usize) -> Run;
     pub fn split_thin(text: *const u8, text_len: usize) -> Set;
     pub fn split_merge(text: *const u8, text_len: usize, out: *mut u8, out_len: usize) -> Answer;
+    pub fn split_quote(text: *const u8, text_len: usize, out: *mut u8, out_len: usize) -> Answer;
     pub fn split_sheet(sheet: *const u8, sheet_len: usize, out: *mut u8, out_len: usize) -> Answer;
     pub fn split_board(sheet: *const u8, sheet_len: usize, names: *const u8, names_len: usize) -> Run;
 }
@@ -129,6 +130,10 @@ pub fn thin(text: &[u8]) -> Set {
 
 pub fn merge(text: &[u8], out: &mut [u8]) -> Answer {
     unsafe { split_merge(text.as_ptr(), text.len(), out.as_mut_ptr(), out.len()) }
+}
+
+pub fn quote(text: &[u8], out: &mut [u8]) -> Answer {
+    unsafe { split_quote(text.as_ptr(), text.len(), out.as_mut_ptr(), out.len()) }
 }
 
 pub fn sheet(sheet: &[u8], out: &mut [u8]) -> Answer {

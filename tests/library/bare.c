@@ -1,10 +1,12 @@
-/* The library without an operating system's library: asks for all eight services and looks at each field. It ends with
- * status 0, or with a bit for each service that answered otherwise. */
+/* The library without an operating system's library: asks for all nine services and looks at each field. It ends with
+ * status 0, or with the number of the first service that answered otherwise, from 1. */
 #include "split.h"
 #include "bare.h"
 
-static const char y[] = "(states 4)\n(events ready brake home)\n(step 0 ready 1)\n(step 0 brake 2)\n(step 1 brake 3)\n"
-                        "(step 2 ready 3)\n(step 3 home 0)\n(machine (0 2) (1 3))\n(machine (0 1) (2 3))\n";
+#define Y                                                                                                \
+    "(states 4)\n(events ready brake home)\n(step 0 ready 1)\n(step 0 brake 2)\n(step 1 brake 3)\n"       \
+    "(step 2 ready 3)\n(step 3 home 0)\n(machine (0 2) (1 3))\n(machine (0 1) (2 3))\n"
+static const char y[] = Y;
 /* Refused by a number and details that all differ, so that no two fields can be taken for each other. */
 static const char forked[] = "(states 2)\n(events a)\n(step 0 a 1)\n(step 0 a 1)\n(machine (0) (1))\n";
 
@@ -76,6 +78,22 @@ static int merges(void)
            same(out, merged, sizeof merged);
 }
 
+/* Y with its first machine again, which is dropped: a line of each kind, and one below zero. */
+static int quotes(void)
+{
+    static const char again[] = Y "(machine (0 2) (1 3))\n";
+    static const char quoted[] = "(line machine 0 40028)\n(line machine 1 40028)\n(line wire home 618)\n"
+                                 "(line credit 2 -4535)\n(total 76139)\n";
+    uint8_t out[sizeof quoted] = {0};
+    struct split_answer fork = split_quote(TEXT(forked), out, sizeof out);
+    struct split_answer asked = split_quote(TEXT(again), out, sizeof quoted - 2);
+    int kept = out[0] == 0;
+    struct split_answer written = split_quote(TEXT(again), out, sizeof out);
+    return FORKED(fork) && fork.size == 0 && asked.number == SPLIT_SHORT_SHEET && asked.detail == sizeof quoted - 1 &&
+           asked.second == 0 && asked.size == 0 && kept && ANSWERED(written) && written.size == sizeof quoted - 1 &&
+           same(out, quoted, sizeof quoted);
+}
+
 static int loads(void)
 {
     uint8_t out[sizeof sheet] = {0};
@@ -103,6 +121,9 @@ static int boards(void)
 
 static int failures(void)
 {
-    return (checks() ? 0 : 1) | (lists() ? 0 : 2) | (names() ? 0 : 4) | (runs() ? 0 : 8) | (thins() ? 0 : 16) |
-           (merges() ? 0 : 32) | (loads() ? 0 : 64) | (boards() ? 0 : 128);
+    int (*const services[])(void) = {checks, lists, names, runs, thins, merges, quotes, loads, boards};
+    for (size_t i = 0; i < sizeof services / sizeof services[0]; i++)
+        if (!services[i]())
+            return (int)i + 1;
+    return 0;
 }

@@ -29,6 +29,8 @@ static void run_odd(void) { split_run(text, length, events, 3); }
 static void thin(void) { split_thin(text, length); }
 static void merge_lent(void) { split_merge(text, length, sheet, sizeof sheet); }
 static void merge_unlent(void) { split_merge(text, length, NULL, 0); }
+static void quote_lent(void) { split_quote(text, length, sheet, sizeof sheet); }
+static void quote_unlent(void) { split_quote(text, length, NULL, 0); }
 static void sheet_lent(void) { split_sheet(loaded, loaded_length, sheet, sizeof sheet); }
 static void sheet_unlent(void) { split_sheet(loaded, loaded_length, NULL, 0); }
 static void board_some(void) { split_board(loaded, loaded_length, names, names_length); }
@@ -46,8 +48,9 @@ static struct {
     {"split_check", {check_lent, check_unlent}, 0}, {"split_steps", {steps_lent, steps_unlent}, 0},
     {"split_name", {name_first, name_odd}, 0},      {"split_run", {run_some, run_odd}, 0},
     {"split_thin", {thin, thin}, 0},                {"split_merge", {merge_lent, merge_unlent}, 0},
-    {"split_sheet", {sheet_lent, sheet_unlent}, 0}, {"split_board", {board_some, board_odd}, 0},
-    {"board_sheet", {own_sheet_lent, own_sheet_unlent}, 0}, {"board_run", {own_some, own_odd}, 0},
+    {"split_quote", {quote_lent, quote_unlent}, 0}, {"split_sheet", {sheet_lent, sheet_unlent}, 0},
+    {"split_board", {board_some, board_odd}, 0},    {"board_sheet", {own_sheet_lent, own_sheet_unlent}, 0},
+    {"board_run", {own_some, own_odd}, 0},
 };
 
 enum { SERVICES = sizeof services / sizeof services[0] };
