@@ -92,6 +92,7 @@ pub enum Told {
     Kept(Vec<usize>),
     /// The merged split's sheet.
     Merged(Vec<u8>),
+    Quoted(Vec<u8>),
 }
 
 impl Told {
@@ -103,6 +104,7 @@ impl Told {
         match call.service() {
             "check" | "sheet" => Told::Sheet(printed.to_vec()),
             "merge" => Told::Merged(printed.to_vec()),
+            "quote" => Told::Quoted(printed.to_vec()),
             "steps" => Told::Steps(figures(line)[1..].chunks(3).map(Step::new).collect()),
             "name" => Told::Name(line.to_vec()),
             "run" | "board" => {

@@ -6,7 +6,7 @@ use std::os::unix::ffi::OsStrExt;
 /// What the system takes as one word, in bytes.
 const LONGEST_WORD: usize = 1 << 17;
 
-pub const SERVICES: [&str; 8] = ["check", "steps", "name", "run", "thin", "merge", "sheet", "board"];
+pub const SERVICES: [&str; 9] = ["check", "steps", "name", "run", "thin", "merge", "quote", "sheet", "board"];
 
 /// Without a service it is check. A lent size is a figure; an event is a figure or a name, for a board any bytes.
 #[derive(Clone, PartialEq, Eq, Hash)]

@@ -36,6 +36,8 @@ mod merged;
 mod merging;
 mod products;
 mod program;
+mod quoted;
+mod quoting;
 mod redundant;
 mod report;
 mod spellings;
@@ -53,7 +55,7 @@ mod words;
 mod written;
 
 /// How many requests of document 02 are in force.
-const RULES: reference::Rules = reference::Rules(5);
+const RULES: reference::Rules = reference::Rules(6);
 
 /// A process for each call is what takes the time, and there is a wait in each.
 const WORKERS: usize = 4;

@@ -3,7 +3,7 @@ use crate::call::{call, lending, run, Call, Task};
 use crate::dice::Dice;
 use crate::draft::{alike, q_with_third, y_from, y_with_first_again, ONE_STATE, Q, TINY, Y};
 use crate::subject::Subject;
-use crate::{crowds, forms, limits, merged, products, redundant, spellings, wide, written};
+use crate::{crowds, forms, limits, merged, products, quoted, redundant, spellings, wide, written};
 use reference::TEXT_BOUND;
 use std::collections::HashMap;
 
@@ -14,10 +14,11 @@ const MOST: usize = 4096;
 
 /// Every room, every event as a figure and as a name, every list of one event.
 fn each(subject: &Subject) -> Vec<Call> {
-    let mut calls = vec![call(""), call("steps"), call("thin"), call("merge")];
+    let mut calls = vec![call(""), call("steps"), call("thin"), call("merge"), call("quote")];
     calls.extend(subject.sheet_rooms().into_iter().map(|room| lending("check", Some(room))));
     calls.extend(subject.step_rooms().into_iter().map(|room| lending("steps", Some(room))));
     calls.extend(subject.merge_rooms().into_iter().map(|room| lending("merge", Some(room))));
+    calls.extend(subject.quote_rooms().into_iter().map(|room| lending("quote", Some(room))));
     let figures = (0..subject.names.len()).map(|event| event.to_string());
     let words: Vec<String> = figures.chain(subject.names.clone()).chain(subject.undeclared_figures()).collect();
     calls.extend(words.iter().map(|word| call(&format!("name {word}"))));
@@ -88,7 +89,7 @@ fn pieces() -> Vec<Task> {
     let each: Vec<usize> = (1..ONE_STATE.len()).collect();
     let mut tasks: Vec<Task> = [0, 1, 11, 80, Y.len() - 1, Y.len()].map(|end| in_pieces(Y, &[end], "")).into();
     tasks.extend([&[1, 2][..], &[50, 100, 150], &[0, 0, Y.len()]].map(|ends| in_pieces(Y, ends, "run brake 0 2 2")));
-    tasks.extend(["steps", "name 2", "thin", "merge"].map(|line| in_pieces(Y, &[60], line)));
+    tasks.extend(["steps", "name 2", "thin", "merge", "quote"].map(|line| in_pieces(Y, &[60], line)));
     tasks.extend([9, 15, 17].map(|end| in_pieces(&y_from(3), &[end], "run home")));
     tasks.push(in_pieces(ONE_STATE, &each, "check"));
     tasks.extend([1, 4096, 16_384, TEXT_BOUND - 1, TEXT_BOUND].map(|end| in_pieces(&largest, &[end], "check")));
@@ -157,8 +158,8 @@ fn many(dice: &mut Dice) -> Vec<Task> {
 
 // ---- All ----------------------------------------------------------------------------
 
-/// Those on the same text as one, each call once, check first; and thin on every text that is accepted, and merge
-/// unless that takes too long.
+/// Those on the same text as one, each call once, check first; and thin and quote on every text that is accepted, and
+/// merge unless that takes too long.
 fn joined(tasks: Vec<Task>) -> Vec<Task> {
     let mut all: Vec<Task> = Vec::new();
     let mut places = HashMap::new();
@@ -167,8 +168,8 @@ fn joined(tasks: Vec<Task>) -> Vec<Task> {
         if place == all.len() {
             let subject = Subject::new(task.text());
             let lines = match subject.sheet.is_ok() {
-                true if subject.merging_takes() < 40_000_000 => &["check", "thin", "merge"][..],
-                true => &["check", "thin"],
+                true if subject.merging_takes() < 40_000_000 => &["check", "thin", "quote", "merge"][..],
+                true => &["check", "thin", "quote"],
                 false => &["check"],
             };
             all.push(Task { calls: lines.iter().map(|line| call(line)).collect(), ..task });
@@ -185,13 +186,13 @@ fn joined(tasks: Vec<Task>) -> Vec<Task> {
 
 pub fn all() -> Vec<Task> {
     let mut dice = Dice::new(1);
-    let mut tasks =
-        [written::examples(), written::calls(), written::faults(), merged::known(), spellings::written()].concat();
+    let by_hand = [written::examples(), written::calls(), written::faults(), merged::known(), quoted::known()];
+    let mut tasks = [by_hand.concat(), spellings::written()].concat();
     let limits = limits::all(&mut dice);
     let numbered = (0..64).map(|k| format!("e{k}")).collect();
     let named = [alike(), numbered].map(|names: Vec<String>| forms::with_names(names.clone(), &names));
     let texts = [Y.to_string(), y_from(3), Q.to_string(), q_with_third(), ONE_STATE.to_string()];
-    for text in texts.into_iter().chain(merged::texts()).chain(named) {
+    for text in texts.into_iter().chain(merged::texts()).chain(quoted::texts()).chain(named) {
         let subject = Subject::new(text);
         tasks.push(Task::new("example", subject.text.clone(), each(&subject)));
     }

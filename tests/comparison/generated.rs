@@ -42,10 +42,11 @@ impl Made {
 }
 
 /// The kind of text, how often it is made among all, and how.
-const MAKERS: [(&str, usize, fn(&mut Dice) -> Made); 11] = [
+const MAKERS: [(&str, usize, fn(&mut Dice) -> Made); 12] = [
     ("product", 12, a_product),
     ("watched product", 8, a_watched_product),
     ("redundant machines", 24, with_redundant_machines),
+    ("wires, or many places", 10, to_be_quoted),
     ("one defect", 50, |dice| with_defects(dice, 1)),
     ("two defects", 16, |dice| with_defects(dice, 2)),
     ("tiny system", 40, |dice| tiny(dice).into()),
@@ -69,8 +70,12 @@ fn a_watched_product(dice: &mut Dice) -> Made {
 }
 
 fn with_redundant_machines(dice: &mut Dice) -> Made {
-    let draw = dice.one(&[redundant::divided, redundant::nearly_needed, redundant::repeated, redundant::finer]);
-    draw(dice).into()
+    let draws = [redundant::divided, redundant::nearly_needed, redundant::repeated, redundant::finer];
+    dice.one(&draws)(dice).into()
+}
+
+fn to_be_quoted(dice: &mut Dice) -> Made {
+    dice.one(&[redundant::wired, redundant::many_placed])(dice).into()
 }
 
 fn with_defects(dice: &mut Dice, count: usize) -> Made {
@@ -101,26 +106,26 @@ fn any(dice: &mut Dice) -> (&'static str, Made) {
     unreachable!("a maker for each number below the sum");
 }
 
-/// Check first, as it is, then thin, and on accepted texts merge: these are there even if the rest is cut off. On
-/// accepted texts several lists; where all services refuse alike, not all of them.
+/// Check first, as it is, then thin, and on accepted texts merge and quote: these are there even if the rest is cut off.
+/// On accepted texts several lists; where all services refuse alike, not all of them.
 fn calls(dice: &mut Dice, subject: &Subject) -> Vec<Call> {
     let mut calls = subject.one_of_each(dice);
     match &subject.sheet {
         Ok(_) => {
             calls.extend([(); 3].map(|_| run(&subject.list(dice))));
-            calls.push(call("merge"));
+            calls.extend(["merge", "quote"].map(call));
         }
         Err(refusal) if refusal.0 > 7 => {
             calls.extend([lending("steps", None), call(&format!("name {}", subject.event(dice)))]);
         }
         Err(_) => {
+            calls.remove(1 + dice.below(7));
             calls.remove(1 + dice.below(6));
-            calls.remove(1 + dice.below(5));
         }
     }
     let turn = |call: &Call| match call.service() {
         "thin" => 0,
-        "merge" if call.arguments().is_empty() => 1,
+        "merge" | "quote" if call.arguments().is_empty() => 1,
         _ => 2,
     };
     calls[1..].sort_by_key(turn);

@@ -5,7 +5,7 @@ use crate::board::{self, board_run, board_sheet};
 use crate::call::{names, Call};
 use crate::lent::{lend, Among, Entry, UNSPOILT};
 use crate::split::{
-    split_board, split_check, split_merge, split_name, split_run, split_sheet, split_steps, split_thin,
+    split_board, split_check, split_merge, split_name, split_quote, split_run, split_sheet, split_steps, split_thin,
 };
 use crate::split::{Answer, Name, Run, Set, Step};
 use reference::TEXT_BOUND;
@@ -93,23 +93,23 @@ fn filling<T: Entry>(function: Lending<T>, name: &str, among: &Among, rooms: &[u
     faults
 }
 
-fn a_sheet(told: &Told) -> Full<u8> {
+fn bytes(told: &Told) -> Full<u8> {
     match told {
         Told::Refused(refusal) => Err(*refusal),
-        Told::Sheet(sheet) | Told::Merged(sheet) => Ok(sheet.clone()),
-        _ => unreachable!("a sheet"),
+        Told::Sheet(bytes) | Told::Merged(bytes) | Told::Quoted(bytes) => Ok(bytes.clone()),
+        _ => unreachable!("a sheet or a quotation"),
     }
 }
 
-/// Check or merge.
+/// Check, merge or quote.
 fn written(function: Lending<u8>, name: &str, call: &Call, text: &[u8], told: &Told) -> Vec<Fault> {
-    let full = a_sheet(told);
+    let full = bytes(told);
     let rooms = rooms(call, text, TEXT_BOUND, full.as_ref().map_or(9, Vec::len));
     filling(function, name, &Among::others(text), &rooms, &full)
 }
 
 fn rewritten(call: &Call, sheet: &[u8], told: &Told) -> Vec<Fault> {
-    let full = a_sheet(told);
+    let full = bytes(told);
     let rooms = rooms(call, sheet, TEXT_BOUND, full.as_ref().map_or(9, Vec::len));
     let of = |function, name: &str| filling(function, name, &Among::machines(sheet), &rooms, &full);
     [of(split_sheet, "split_sheet"), of(sheet_of_board, "board_sheet")].into_iter().flatten().collect()
@@ -202,6 +202,7 @@ pub fn faults(call: &Call, text: &[u8], told: &Told) -> Vec<Fault> {
     match call.service() {
         "check" => written(split_check, "split_check", call, text, told),
         "merge" => written(split_merge, "split_merge", call, text, told),
+        "quote" => written(split_quote, "split_quote", call, text, told),
         "steps" => listed(call, text, told),
         "name" => named(call, text, told),
         "run" => ran(call, text, told),

@@ -1,6 +1,6 @@
-//! Splits in which some machines are needed and others add nothing, for thinning; or places, for merging.
+//! Splits in which some machines are needed and others add nothing, for thinning and quoting; or places, for merging.
 use crate::dice::Dice;
-use crate::draft::Draft;
+use crate::draft::{alike, Draft};
 use crate::products::{product, rings};
 use crate::RULES;
 use reference::{self, TEXT_BOUND};
@@ -83,6 +83,49 @@ pub fn nearly_needed(dice: &mut Dice) -> Draft {
     let mut draft = without_machines(dice, states);
     singled_out(dice, &mut draft);
     for _ in 0..dice.one(&[0, 0, 1, 2]).min(16 - draft.machines.len()) {
+        let machine = division(dice, states);
+        dice.insert(&mut draft.machines, machine);
+    }
+    draft
+}
+
+/// Three machines or more, all needed, with at least as many events and one. Each has a place with the start and one
+/// with state 1, and alone parts a state of its own from the start. The first events lead from 1 to these states and
+/// are each on all machines but one; the others lead from the start to 1 and are on all.
+pub fn shared(events: Vec<String>, machines: usize) -> Draft {
+    let own = |k: usize| k + 2;
+    let step = |(k, name): (usize, &String)| match k < machines {
+        true => (1, name.clone(), own(k)),
+        false => (0, name.clone(), 1),
+    };
+    let steps = events.iter().enumerate().map(step).collect();
+    let others = |k: usize| (0..machines).filter(|other| *other != k).map(own).collect::<Vec<_>>();
+    let machine = |k: usize| vec![[vec![0], others(k)].concat(), vec![1, own(k)]];
+    Draft { states: machines + 2, start: None, events, steps, machines: (0..machines).map(machine).collect() }
+}
+
+/// The same with names that are alike, and now and then with some machines again.
+pub fn wired(dice: &mut Dice) -> Draft {
+    let machines = 3 + dice.below(14);
+    let mut names = alike();
+    dice.shuffle(&mut names);
+    names.truncate(machines + 1 + dice.below(names.len() - machines));
+    let mut draft = shared(names, machines);
+    for _ in 0..dice.one(&[0, 0, 1, 3]).min(16 - machines) {
+        let machine = dice.one(&draft.machines);
+        dice.insert(&mut draft.machines, machine);
+    }
+    draft.begun(dice)
+}
+
+/// A machine with a place for each state, so many that the rebate may be a half, and up to two that are coarser.
+pub fn many_placed(dice: &mut Dice) -> Draft {
+    let states = dice.one(&[10, 11, 11, 11, 11, 12, 21, 31]);
+    let mut draft = without_machines(dice, states);
+    let mut places: Vec<Vec<usize>> = (0..states).map(|state| vec![state]).collect();
+    dice.shuffle(&mut places);
+    draft.machines.push(places);
+    for _ in 0..dice.below(3) {
         let machine = division(dice, states);
         dice.insert(&mut draft.machines, machine);
     }

@@ -5,6 +5,7 @@ use crate::call::{Call, Task, SERVICES};
 use crate::library::Fault;
 use crate::merging::LABELS as MERGE_LABELS;
 use crate::program::beside;
+use crate::quoting::LABELS as QUOTE_LABELS;
 use crate::spelt::LABELS as CASE_LABELS;
 use crate::starts::LABELS as START_LABELS;
 use crate::telling::LABELS;
@@ -27,12 +28,13 @@ const DUE: [&[usize]; SERVICES.len()] = [
     &[0, 1, 2, 3, 4, 5, 6, 7, 8, 9, 10, 11, 12, 14],
     &[0, 1, 2, 3, 4, 5, 6, 7, 8, 9, 10, 11, 12],
     &[0, 1, 2, 3, 4, 5, 6, 7, 8, 9, 10, 11, 12, 13],
+    &[0, 1, 2, 3, 4, 5, 6, 7, 8, 9, 10, 11, 12, 13],
     &[0, 13, 15],
     &[0, 14, 15],
 ];
 
 fn labels() -> impl Iterator<Item = &'static str> {
-    let of_texts = START_LABELS.into_iter().chain(CASE_LABELS).chain(LABELS).chain(MERGE_LABELS);
+    let of_texts = START_LABELS.into_iter().chain(CASE_LABELS).chain(LABELS).chain(MERGE_LABELS).chain(QUOTE_LABELS);
     of_texts.chain(BOARD_LABELS).chain(BOARD_CASE_LABELS)
 }
 

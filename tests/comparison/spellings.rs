@@ -24,6 +24,8 @@ const CALLS: &[(&str, &str)] = &[
     ("merge", SHEET),
     ("merge 144", "(refused 13 145 0)"),
     ("thin", "(kept 2 (0 1))"),
+    ("quote", "(line machine 0 40028)|(line machine 1 40028)|(line wire home 618)|(total 80674)"),
+    ("quote 80", "(refused 13 81 0)"),
     ("steps", "(steps 5)|(step 0 0 1)|(step 0 1 2)|(step 1 1 3)|(step 2 0 3)|(step 3 2 0)"),
     ("name 0", "Ready"),
     ("name 1", "BRAKE"),
@@ -133,7 +135,7 @@ fn naming(declared: &[u8], in_step: &[u8], last: bool) -> Vec<u8> {
 const NAME: &[u8] = b"aZ5-zA09m";
 
 fn by_library((turn, text): (usize, Vec<u8>)) -> Task {
-    let others = ["steps", "name 1", "run 1 0", "thin", "merge"];
+    let others = ["steps", "name 1", "run 1 0", "thin", "merge", "quote"];
     let calls = ["check", others[turn % others.len()]].map(|line| call(line).by_library());
     Task::new("byte of a name", text, calls.into())
 }

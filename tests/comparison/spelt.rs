@@ -10,8 +10,8 @@ use std::collections::BTreeSet;
 pub struct Spelling {
     declared: Vec<Vec<u8>>,
     has_capitals: bool,
-    /// Some step has a name that is declared, in another case.
-    steps_otherwise: bool,
+    /// The names that are declared and that some step has in another case, as declared.
+    steps_otherwise: Vec<Vec<u8>>,
 }
 
 fn has_capital(name: &[u8]) -> bool {
@@ -79,9 +79,12 @@ impl Spelling {
         let so = |so: Stands| all.iter().filter(move |name| name.0 == so).map(|name| &text[name.1.clone()]);
         let declared = so(Stands::Declared).map(<[u8]>::to_vec).collect();
         let has_capitals = all.iter().any(|name| has_capital(&text[name.1.clone()]));
-        let spelling = Spelling { declared, has_capitals, steps_otherwise: false };
+        let mut spelling = Spelling { declared, has_capitals, steps_otherwise: Vec::new() };
         let steps: BTreeSet<&[u8]> = so(Stands::InStep).collect();
-        Spelling { steps_otherwise: steps.into_iter().any(|name| spelling.is_otherwise(name)), ..spelling }
+        let steps: Vec<&[u8]> = steps.into_iter().filter(|name| spelling.is_otherwise(name)).collect();
+        let is_in_step = |known: &&Vec<u8>| steps.iter().any(|name| is_same(known, name));
+        spelling.steps_otherwise = spelling.declared.iter().filter(is_in_step).cloned().collect();
+        spelling
     }
 
     fn is_declared(&self, name: &[u8], same: fn(&[u8], &[u8]) -> bool) -> bool {
@@ -93,14 +96,23 @@ impl Spelling {
         self.is_declared(name, is_same) && !self.is_declared(name, |one, other| one == other)
     }
 
+    /// A wire of the quotation has a name that some step has in another case.
+    fn is_wired(&self, told: &Told) -> bool {
+        let Told::Quoted(printed) = told else { return false };
+        let printed = String::from_utf8_lossy(printed);
+        let is_printed = |name: &[u8]| printed.contains(&format!("(line wire {} ", String::from_utf8_lossy(name)));
+        self.steps_otherwise.iter().any(|name| is_printed(name))
+    }
+
     pub fn telling(&self, text: &[u8], call: &Call, told: &Told) -> Vec<&'static str> {
         let number = if let Told::Refused([number, ..]) = told { *number } else { 0 };
         let read = !(1..=3).contains(&number);
         let is_asked = |word: &String| self.is_otherwise(word.as_bytes());
         let told_so = [
             (CAPITALS, read && self.has_capitals),
-            (IN_STEP, read && self.steps_otherwise),
-            (PRINTED, matches!(told, Told::Sheet(_) | Told::Merged(_)) && self.steps_otherwise),
+            (IN_STEP, read && !self.steps_otherwise.is_empty()),
+            (PRINTED, matches!(told, Told::Sheet(_) | Told::Merged(_)) && !self.steps_otherwise.is_empty()),
+            (WIRED, self.is_wired(told)),
             (TWICE, matches!(told, Told::Refused([3, 2, _])) && is_twice_by_case(&self.declared)),
             (NAMED, matches!(told, Told::Name(name) if has_capital(name))),
             (ASKED, number == 0 && call.arguments().iter().any(is_asked)),
@@ -117,6 +129,7 @@ impl Spelling {
 const CAPITALS: &str = "case: capitals in a name, not refused by 1 to 3";
 const IN_STEP: &str = "case: a step's name declared in another, not refused by 3";
 const PRINTED: &str = "case: a sheet as declared, otherwise than in a step";
+const WIRED: &str = "case: a wire as declared, otherwise than in a step";
 const TWICE: &str = "case: refused 3 for a name declared in two";
 const NAMED: &str = "case: a name with capitals handed back";
 const ASKED: &str = "case: events asked for in another than declared";
@@ -124,4 +137,5 @@ const BESIDE: &str = "case: a byte beside the letters refused in a name";
 const NO_LETTER: &str = "case: a digit or a hyphen with the bit of case turned refused in a name";
 const HIGHEST_BIT: &str = "case: a name's byte with the highest bit refused";
 
-pub const LABELS: [&str; 9] = [CAPITALS, IN_STEP, PRINTED, TWICE, NAMED, ASKED, BESIDE, NO_LETTER, HIGHEST_BIT];
+pub const LABELS: [&str; 10] =
+    [CAPITALS, IN_STEP, PRINTED, WIRED, TWICE, NAMED, ASKED, BESIDE, NO_LETTER, HIGHEST_BIT];

@@ -50,6 +50,11 @@ impl Subject {
         Subject::rooms(merged).into_iter().chain(between).collect()
     }
 
+    pub fn quote_rooms(&self) -> Vec<String> {
+        let quotation = self.sheet.as_ref().ok().and_then(|_| reference::quote(RULES, &self.text, usize::MAX).ok());
+        Subject::rooms(quotation.map_or(7, |quotation| quotation.len()))
+    }
+
     /// How long merging takes the independent program, which tries each pair of places on all states and events anew:
     /// a second or more from about 10,000,000 on. Nothing on a text that is refused.
     pub fn merging_takes(&self) -> usize {
@@ -187,7 +192,8 @@ impl Subject {
 
     /// Check as it is and with a size; then one call of each of the others, of merge unless that takes long.
     pub fn one_of_each(&self, dice: &mut Dice) -> Vec<Call> {
-        let [sheet, steps] = [self.sheet_rooms(), self.step_rooms()].map(|rooms| dice.one(&rooms));
+        let rooms = [self.sheet_rooms(), self.step_rooms(), self.quote_rooms()];
+        let [sheet, steps, quotation] = rooms.map(|rooms| dice.one(&rooms));
         let merged = (self.merging_takes() < 5_000_000).then(|| lending("merge", Some(dice.one(&self.merge_rooms()))));
         let (event, list) = (self.event(dice), self.list(dice));
         let calls = [
@@ -197,6 +203,7 @@ impl Subject {
             call(&format!("name {event}")),
             run(&list),
             call("thin"),
+            lending("quote", Some(quotation)),
         ];
         calls.into_iter().chain(merged).collect()
     }

@@ -2,6 +2,7 @@
 use crate::answer::Told;
 use crate::machines::{after, Machine, Plan};
 use crate::merging::{self, Merging};
+use crate::quoting;
 
 /// The plan and the machines that the independent program's sheet gives.
 pub struct Split {
@@ -136,6 +137,7 @@ impl Split {
             Told::Sheet(_) if self.starts() != self.places_of_zero() => vec![NOT_OF_ZERO],
             Told::Ran(blocked, _) => self.of_run(numbers, *blocked),
             Told::Kept(kept) => self.of_thin(kept),
+            Told::Quoted(printed) => quoting::telling(&self.plan, &self.machines, printed),
             Told::Refused([14, position, _]) if *position > 0 => {
                 let (ran, _) = self.run(&numbers[..*position]);
                 if ran < *position {

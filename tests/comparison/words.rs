@@ -22,7 +22,8 @@ const NO_CALLS: &str =
     explain x y|thin 0|thin ready|sheet 5 6|sheet 300 0|sheet ready|help 1|help run|help Text|help TEXT|help text text|\
     help board|explain|explain 0|explain 16|explain 01|explain x|explain 1x|explain -1|explain Open|explain idle event|\
     explain 1 x|explain open 1 2 3|explain 12 0 02|Check|checks|chec|sheets|Board|BOARD ready|Run|RUN 0|Name 0|STEPS|\
-    Thin|Help|Explain 1|merge 5 6|merge 300 0|merge ready|Merge|merges|quote 5|ready|READY|0| check|check 0 | check 0|";
+    Thin|Help|Explain 1|merge 5 6|merge 300 0|merge ready|Merge|merges|quote 5 6|quote 300 0|quote ready|Quote|QUOTE 5|\
+    quotes|quot|regions 5|ready|READY|0| check|check 0 | check 0|";
 
 /// The refusals by their word, the first of two; the first has number 1.
 const REFUSALS: [&str; 15] = [
@@ -44,7 +45,7 @@ fn parted(line: &str) -> Vec<OsString> {
 /// Each of what is no event in each position that takes one, or takes a figure.
 fn wrong_words() -> Vec<Vec<OsString>> {
     let runs = [&["run"][..], &["run", "0"], &["run", "ready", "300"]];
-    let others = [&["name"][..], &["check"], &["steps"], &["merge"], &["sheet"], &["explain"]];
+    let others = [&["name"][..], &["check"], &["steps"], &["merge"], &["quote"], &["sheet"], &["explain"]];
     let mut lists: Vec<Vec<OsString>> = NO_CALLS.split('|').map(parted).collect();
     for wrong in NO_EVENTS.split(|b| *b == b'|') {
         let word = OsStr::from_bytes(wrong);
@@ -75,7 +76,7 @@ fn is_refusal(word: &[u8]) -> bool {
 fn wrong(words: &[OsString]) -> usize {
     let words: Vec<&[u8]> = words.iter().map(|word| word.as_bytes()).collect();
     let fits: &dyn Fn(usize, &[u8]) -> bool = match words[0] {
-        b"check" | b"steps" | b"merge" | b"sheet" => &|k, word| k == 1 && is_figure(word),
+        b"check" | b"steps" | b"merge" | b"quote" | b"sheet" => &|k, word| k == 1 && is_figure(word),
         b"name" => &|k, word| k == 1 && is_event(word),
         b"run" => &|_, word| is_event(word),
         b"thin" => &|_, _| false,

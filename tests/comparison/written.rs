@@ -164,6 +164,8 @@ const CALLS: &[(fn() -> String, &str, &str)] = &[
     (y, "steps 5", "(steps 5)|(step 0 0 1)|(step 0 1 2)|(step 1 1 3)|(step 2 0 3)|(step 3 2 0)"),
     (y, "steps 4", "(refused 13 5 0)"),
     (y, "steps 0", "(refused 13 5 0)"),
+    (y, "quote", "(line machine 0 40028)|(line machine 1 40028)|(line wire home 618)|(total 80674)"),
+    (y, "quote 2", "(refused 13 81 0)"),
     (y, "check 144", "(refused 13 145 0)"),
     (y, "check 0", "(refused 13 145 0)"),
     (y, "name 0", "ready"),
@@ -206,13 +208,17 @@ const CALLS: &[(fn() -> String, &str, &str)] = &[
     (one_state, "name 0", "(refused 14 0 0)"),
     (q, "run early", "(refused 12 0 2)"),
     (q, "thin", "(refused 12 0 2)"),
+    (q, "quote", "(refused 12 0 2)"),
+    (q, "quote 0", "(refused 12 0 2)"),
     (q, "steps", "(steps 2)|(step 0 0 1)|(step 0 1 2)"),
     (q, "name 1", "brake"),
     (y_without_last, "run 300", "(refused 11 1 0)"),
     (y_without_last, "thin", "(refused 11 1 0)"),
+    (y_without_last, "quote 2", "(refused 11 1 0)"),
     (y_without_last, "name brake", "brake"),
     (y_uneven, "run", "(refused 10 0 0)"),
     (y_uneven, "thin", "(refused 10 0 0)"),
+    (y_uneven, "quote 2", "(refused 10 0 0)"),
 ];
 
 fn y() -> String {
