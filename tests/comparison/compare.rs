@@ -1,5 +1,5 @@
 //! The program and the library held to an independent program on many calls, the plan and the machines walked side by
-//! side on each text. See the script of the same name for how to call it.
+//! side on each text, and its quotation audited. See the script of the same name for how to call it.
 //!
 //!     compare PROGRAM SEED COUNT [FEWEST]     at the root of the repository; each answer comes FEWEST times or more
 use answer::Told;
@@ -15,6 +15,7 @@ use telling::Split;
 use watchdog::Watchdog;
 
 mod answer;
+mod audit;
 #[path = "../../include/board.rs"]
 mod board;
 mod boards;
@@ -68,12 +69,13 @@ enum Job {
     Calls(Task),
 }
 
-/// What the program printed of a text: its sheet, the machines that thinning keeps, and the merged sheet.
+/// What the program printed of a text: its sheet, the machines that thinning keeps, the merged sheet, the quotation.
 #[derive(Default)]
 struct Printed {
     sheet: Vec<u8>,
     kept: Option<Vec<usize>>,
     merged: Option<Vec<u8>>,
+    quoted: Option<Vec<u8>>,
 }
 
 impl Printed {
@@ -81,6 +83,7 @@ impl Printed {
         match call.service() {
             "thin" => self.kept = self.kept.take().or_else(|| answer::kept(stdout)),
             "merge" if call.arguments().is_empty() => self.merged = Some(stdout.to_vec()),
+            "quote" if call.arguments().is_empty() => self.quoted = Some(stdout.to_vec()),
             _ => {}
         }
     }
@@ -89,6 +92,11 @@ impl Printed {
         let pairs = walking::accepted(text, &self.sheet, self.kept.as_deref())?;
         let merged = self.merged.as_ref().map_or(Ok(0), |sheet| walking::merged(text, sheet))?;
         Ok(pairs + merged)
+    }
+
+    /// Nothing if the quotation was not asked for, or cut off.
+    fn audited(&self, text: &[u8]) -> Option<Result<usize, String>> {
+        Some(audit::quotation(text, &self.sheet, self.kept.as_ref()?, self.quoted.as_ref()?))
     }
 }
 
@@ -183,6 +191,9 @@ fn compare(task: &Task, program: &Program, watchdog: &Watchdog, report: &Report)
             _ => walking::refused(&text),
         };
         report.walk(&text, class, walked);
+        if let Some(audited) = printed.audited(&text) {
+            report.audit(&text, audited);
+        }
     }
 }
 

@@ -48,6 +48,9 @@ struct Counts {
     /// Texts that were walked, by the class of their check.
     walked: [usize; 16],
     pairs: usize,
+    /// Quotations that were held to the sheet, and their lines.
+    audited: usize,
+    lines: usize,
     seen: HashSet<u64>,
     differ: usize,
     hangs: bool,
@@ -165,6 +168,15 @@ impl Report {
         }
     }
 
+    pub fn audit(&self, text: &[u8], audited: Result<usize, String>) {
+        let mut counts = self.counts();
+        counts.audited += 1;
+        match audited {
+            Ok(lines) => counts.lines += lines,
+            Err(why) => counts.differs("an audit of the quotation", text, "what the sheet and thin come to", &why),
+        }
+    }
+
     pub fn print(&self) {
         let counts = self.counts();
         let row = |head: &str, cells: &[String]| {
@@ -184,6 +196,7 @@ impl Report {
         let [texts, pairs] = [accepted + unheld + open, counts.pairs].map(grouped);
         let kinds = format!("{accepted} accepted, {unheld} refused by 11, {open} by 12");
         println!("{texts} texts walked ({kinds}), {pairs} pairs of a state and places");
+        println!("{} quotations audited, {} lines", grouped(counts.audited), grouped(counts.lines));
     }
 
     /// Each answer came at least so often, or the calls no longer are what they were made for. Differences come first.
@@ -196,6 +209,7 @@ impl Report {
             let rare = due.iter().find(|class| row[**class] < fewest);
             assert!(rare.is_none(), "too rare: {service} with {}", rare.unwrap());
         }
+        assert!(counts.audited >= fewest, "too rare: quotations that are audited");
         let rare = labels().find(|label| counts.telling(label) < fewest);
         assert!(rare.is_none(), "too rare: {}", rare.unwrap());
     }
