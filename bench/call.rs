@@ -2,9 +2,9 @@
 use std::hint::black_box;
 
 /// The services, by the words of the command line.
-pub const SERVICES: [&str; 8] = ["check", "steps", "name", "run", "thin", "merge", "sheet", "board"];
+pub const SERVICES: [&str; 9] = ["check", "steps", "name", "run", "thin", "merge", "quote", "sheet", "board"];
 
-/// What is lent for a sheet and for steps. Both always suffice.
+/// What is lent for a sheet or a quotation, and for steps. Both always suffice.
 pub const SHEET: usize = 32_768;
 pub const STEPS: usize = 1024;
 
@@ -17,6 +17,7 @@ pub enum Service {
     Run(Vec<u8>),
     Thin,
     Merge,
+    Quote,
     /// So many of the bytes that are lent for a sheet.
     Sheet(usize),
     /// Names, each ended by byte 10.
@@ -32,8 +33,9 @@ impl Service {
             Service::Run(_) => 3,
             Service::Thin => 4,
             Service::Merge => 5,
-            Service::Sheet(_) => 6,
-            Service::Board(_) => 7,
+            Service::Quote => 6,
+            Service::Sheet(_) => 7,
+            Service::Board(_) => 8,
         }]
     }
 }
@@ -47,7 +49,8 @@ pub struct Call {
 #[derive(PartialEq)]
 pub enum Told {
     Refused([usize; 3]),
-    Sheet(Vec<u8>),
+    /// A sheet or a quotation.
+    Written(Vec<u8>),
     /// From-state, event, to-state of each.
     Steps(Vec<[u8; 3]>),
     Name(Vec<u8>),

@@ -126,8 +126,8 @@ fn services(Text { name, bytes, walk }: &Text) -> Vec<Service> {
     let all = [Service::Check(SHEET), Service::Steps, last, Service::Run(walk.clone()), Service::Thin];
     match &name[..] {
         name if is_for_merging(name) => vec![Service::Merge],
-        "a-y" | "both-32k" => all.into_iter().chain([Service::Merge]).collect(),
-        _ => all.into(),
+        "a-y" | "both-32k" => all.into_iter().chain([Service::Merge, Service::Quote]).collect(),
+        _ => all.into_iter().chain([Service::Quote]).collect(),
     }
 }
 

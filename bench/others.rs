@@ -5,7 +5,7 @@ use reference::Refusal;
 use std::hint::black_box;
 
 /// How many requests of document 02 are in force.
-const RULES: reference::Rules = reference::Rules(5);
+const RULES: reference::Rules = reference::Rules(6);
 
 /// It has no steps and no name, and check, run and thin only on names in small letters.
 pub struct Peer {
@@ -19,7 +19,7 @@ impl Peer {
 
     fn written(&self, answer: peer_slips::Answer) -> Told {
         match answer {
-            peer_slips::Answer::Accepted(size) => Told::Sheet(self.sheet[..size].to_vec()),
+            peer_slips::Answer::Accepted(size) => Told::Written(self.sheet[..size].to_vec()),
             peer_slips::Answer::Refused(number, detail, second) => refused(number, detail, second),
         }
     }
@@ -39,7 +39,7 @@ impl Program for Peer {
         match service {
             Service::Check(_) | Service::Run(_) | Service::Thin if !is_small(text) => None,
             Service::Check(lent) => Some(match peer::check(text, &mut self.sheet[..*lent]) {
-                peer::Answer::Accepted(size) => Told::Sheet(self.sheet[..size].to_vec()),
+                peer::Answer::Accepted(size) => Told::Written(self.sheet[..size].to_vec()),
                 peer::Answer::Refused(number, detail, second) => refused(number, detail, second),
             }),
             Service::Run(events) => {
@@ -56,6 +56,10 @@ impl Program for Peer {
             }),
             Service::Merge => {
                 let answer = peer_slips::merge(text, &mut self.sheet);
+                Some(self.written(answer))
+            }
+            Service::Quote => {
+                let answer = peer_slips::quote(text, &mut self.sheet);
                 Some(self.written(answer))
             }
             Service::Sheet(lent) => {
@@ -82,6 +86,7 @@ impl Program for Peer {
             Service::Run(events) => again(rounds, || peer::run(black_box(text), black_box(events))),
             Service::Thin => again(rounds, || peer::thin(black_box(text))),
             Service::Merge => again(rounds, || peer_slips::merge(black_box(text), black_box(&mut self.sheet))),
+            Service::Quote => again(rounds, || peer_slips::quote(black_box(text), black_box(&mut self.sheet))),
             Service::Sheet(lent) => {
                 again(rounds, || peer_slips::sheet(black_box(text), black_box(&mut self.sheet[..*lent])));
             }
@@ -123,15 +128,16 @@ fn boarded(sheet: &[u8], names: &[u8]) -> Result<Told, Refusal> {
 impl Program for Independent {
     fn tell(&mut self, Call { text, service }: &Call) -> Option<Told> {
         let told = match service {
-            Service::Check(lent) => reference::check(RULES, text, *lent).map(Told::Sheet),
+            Service::Check(lent) => reference::check(RULES, text, *lent).map(Told::Written),
             Service::Steps => reference::steps(RULES, text, STEPS)
                 .map(|all| Told::Steps(all.iter().map(|s| [s.from, s.event, s.to].map(|n| n as u8)).collect())),
             Service::Name(event) => reference::event_name(RULES, text, *event).map(Told::Name),
             Service::Run(events) => ran(text, events),
             Service::Thin => reference::thin(RULES, text)
                 .map(|kept| Told::Kept(kept.iter().map(|machine| 1 << machine).sum(), kept.len())),
-            Service::Merge => reference::merge(RULES, text, SHEET).map(Told::Sheet),
-            Service::Sheet(lent) => reference::rewritten(RULES, text, *lent).map(Told::Sheet),
+            Service::Merge => reference::merge(RULES, text, SHEET).map(Told::Written),
+            Service::Quote => reference::quote(RULES, text, SHEET).map(Told::Written),
+            Service::Sheet(lent) => reference::rewritten(RULES, text, *lent).map(Told::Written),
             Service::Board(names) => boarded(text, names),
         };
         Some(told.unwrap_or_else(|Refusal(number, detail, second)| refused(number, detail, second)))
@@ -148,6 +154,7 @@ impl Program for Independent {
             }
             Service::Thin => again(rounds, || reference::thin(RULES, black_box(text))),
             Service::Merge => again(rounds, || reference::merge(RULES, black_box(text), SHEET)),
+            Service::Quote => again(rounds, || reference::quote(RULES, black_box(text), SHEET)),
             Service::Sheet(lent) => again(rounds, || reference::rewritten(RULES, black_box(text), *lent)),
             Service::Board(names) => {
                 again(rounds, || reference::board_run(RULES, black_box(text), black_box(names)));

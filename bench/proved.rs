@@ -1,6 +1,6 @@
 //! The proved library, called as include/split.rs has it.
 use crate::call::{again, Call, Program, Service, Told, SHEET, STEPS};
-use crate::split::{board, check, merge, name, run, sheet, steps, thin, Answer, Name, Run, Set, Step};
+use crate::split::{board, check, merge, name, quote, run, sheet, steps, thin, Answer, Name, Run, Set, Step};
 use std::hint::black_box;
 
 /// The answer, unless a refusal has a number.
@@ -32,7 +32,7 @@ impl Program for Proved {
         Some(match service {
             Service::Check(lent) => {
                 let Answer { number, detail, second, size } = check(text, &mut self.sheet[..*lent]);
-                or(Told::Sheet(self.sheet[..size].to_vec()), [number, detail, second])
+                or(Told::Written(self.sheet[..size].to_vec()), [number, detail, second])
             }
             Service::Steps => {
                 let Answer { number, detail, second, size } = steps(text, &mut self.steps);
@@ -50,11 +50,15 @@ impl Program for Proved {
             }
             Service::Merge => {
                 let Answer { number, detail, second, size } = merge(text, &mut self.sheet);
-                or(Told::Sheet(self.sheet[..size].to_vec()), [number, detail, second])
+                or(Told::Written(self.sheet[..size].to_vec()), [number, detail, second])
+            }
+            Service::Quote => {
+                let Answer { number, detail, second, size } = quote(text, &mut self.sheet);
+                or(Told::Written(self.sheet[..size].to_vec()), [number, detail, second])
             }
             Service::Sheet(lent) => {
                 let Answer { number, detail, second, size } = sheet(text, &mut self.sheet[..*lent]);
-                or(Told::Sheet(self.sheet[..size].to_vec()), [number, detail, second])
+                or(Told::Written(self.sheet[..size].to_vec()), [number, detail, second])
             }
             Service::Board(names) => ran(board(text, names)),
         })
@@ -69,6 +73,7 @@ impl Program for Proved {
             Service::Run(events) => again(rounds, || run(black_box(text), black_box(events))),
             Service::Thin => again(rounds, || thin(black_box(text))),
             Service::Merge => again(rounds, || merge(black_box(text), black_box(bytes))),
+            Service::Quote => again(rounds, || quote(black_box(text), black_box(bytes))),
             Service::Sheet(lent) => again(rounds, || sheet(black_box(text), black_box(&mut bytes[..*lent]))),
             Service::Board(names) => again(rounds, || board(black_box(text), black_box(names))),
         }
