@@ -11,7 +11,7 @@ fn ring(states: usize) -> Draft {
 }
 
 /// The ring without the step and the event that close it: as many places as states, one event less.
-fn chain(states: usize) -> Draft {
+pub fn chain(states: usize) -> Draft {
     let mut draft = ring(states);
     let last = draft.events.pop();
     draft.steps.retain(|(_, event, _)| Some(event) != last.as_ref());

@@ -1,6 +1,7 @@
 //! Texts with their quotations, written by hand.
 use crate::call::{call, lending, Task};
-use crate::draft::{lines, q_with_third, with, y_from, y_with_first_again, Draft, ONE_STATE, Y};
+use crate::draft::{lines, q_with_third, with, y_from, y_with_first_again, ONE_STATE, Y};
+use crate::limits::chain;
 use crate::redundant::shared;
 
 /// What a machine of so many places comes to. With 1, 11, 21, .. its rebate is a half before it is rounded.
@@ -47,7 +48,8 @@ const SOME: &[(&str, &str)] = &[
 
 fn of_examples() -> Vec<(String, String)> {
     let y = "(line machine 0 40028)|(line machine 1 40028)|(line wire home 618)|(total 80674)";
-    let again = "(line machine 0 40028)|(line machine 1 40028)|(line wire home 618)|(line credit 2 -4535)|(total 76139)";
+    let again =
+        "(line machine 0 40028)|(line machine 1 40028)|(line wire home 618)|(line credit 2 -4535)|(total 76139)";
     let third = "(line machine 2 40028)|(line credit 0 -4535)|(line credit 1 -4535)|(total 30958)";
     let one_state = "(line machine 0 39854)|(total 39854)";
     let examples = [
@@ -61,7 +63,7 @@ fn of_examples() -> Vec<(String, String)> {
     examples.map(|(text, quotation)| (text, lines(quotation))).into()
 }
 
-/// A machine of two places again and again: from ten on the credits outweigh it.
+/// A machine of two places again and again: with ten of them the credits outweigh what it costs.
 fn copies(machines: usize) -> (String, String) {
     let credits: String = (1..machines).map(|k| format!("(line credit {k} -4535)\n")).collect();
     let total = 40_028 - 4_535 * (machines as i64 - 1);
@@ -69,19 +71,11 @@ fn copies(machines: usize) -> (String, String) {
     (text, format!("(line machine 0 40028)\n{credits}(total {total})\n"))
 }
 
-/// A machine of so many places, one for each state.
-fn chain(places: usize) -> String {
-    let name = |k: usize| format!("e{k}");
-    let steps = (1..places).map(|k| (k - 1, name(k), k)).collect();
-    let machine = (0..places).map(|state| vec![state]).collect();
-    Draft { states: places, events: (1..places).map(name).collect(), steps, machines: vec![machine], start: None }.text()
-}
-
 fn of_places((places, cents): (usize, i64)) -> (String, String) {
-    (chain(places), format!("(line machine 0 {cents})\n(total {cents})\n"))
+    (chain(places).text(), format!("(line machine 0 {cents})\n(total {cents})\n"))
 }
 
-/// All machines have two places and are kept, and share every event but that each of the first ones leaves one out.
+/// All machines have two places and are kept. Each of the first events is on all of them but one, the others are on all.
 fn of_wires(names: Vec<String>, machines: usize) -> (String, String) {
     let (mut quotation, mut total) = (String::new(), 0);
     let mut line = |what: String, cents: i64| {
@@ -101,7 +95,7 @@ fn unordered(machines: usize) -> (String, String) {
 }
 
 /// No quotation is longer: 16 machines, all kept, 64 wires of four figures with names of 16 bytes, a total of seven.
-pub const LONGEST: usize = 2566;
+const LONGEST: usize = 2566;
 
 fn longest() -> (String, String) {
     let (text, quotation) = of_wires((10..74).map(|k| format!("sixteen-bytes-{k}")).collect(), 16);
@@ -115,7 +109,7 @@ fn all() -> Vec<(String, String)> {
     some.chain(of_examples()).chain(counted).chain([longest()]).collect()
 }
 
-/// The quotation as it is, in just as many bytes, and refused in one less and in none.
+/// The quotation as it is, in just as many bytes and in one more, and refused in one less and in none.
 fn of((text, quotation): (String, String)) -> Task {
     let size = quotation.len();
     let refused = format!("(refused 13 {size} 0)\n");
@@ -127,7 +121,7 @@ fn of((text, quotation): (String, String)) -> Task {
 
 /// And a machine of each count of places, by whatever it comes to.
 pub fn known() -> Vec<Task> {
-    let each = (1..=64).map(|places| Task::new("quoted", chain(places), vec![call("quote")]));
+    let each = (1..=64).map(|places| Task::new("quoted", chain(places).text(), vec![call("quote")]));
     all().into_iter().map(of).chain(each).collect()
 }
 

@@ -89,9 +89,9 @@ pub fn nearly_needed(dice: &mut Dice) -> Draft {
     draft
 }
 
-/// Three machines or more, all needed, with at least as many events and one. Each has a place with the start and one
-/// with state 1, and alone parts a state of its own from the start. The first events lead from 1 to these states and
-/// are each on all machines but one; the others lead from the start to 1 and are on all.
+/// So many machines, three or more, all needed, and more events than these. Each has a place with the start and one with
+/// state 1, and alone parts a state of its own from the start. The first events lead from 1 to these states, each on all
+/// machines but one; the others lead from the start to 1, on all.
 pub fn shared(events: Vec<String>, machines: usize) -> Draft {
     let own = |k: usize| k + 2;
     let step = |(k, name): (usize, &String)| match k < machines {

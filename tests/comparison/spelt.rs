@@ -137,5 +137,4 @@ const BESIDE: &str = "case: a byte beside the letters refused in a name";
 const NO_LETTER: &str = "case: a digit or a hyphen with the bit of case turned refused in a name";
 const HIGHEST_BIT: &str = "case: a name's byte with the highest bit refused";
 
-pub const LABELS: [&str; 10] =
-    [CAPITALS, IN_STEP, PRINTED, WIRED, TWICE, NAMED, ASKED, BESIDE, NO_LETTER, HIGHEST_BIT];
+pub const LABELS: [&str; 10] = [CAPITALS, IN_STEP, PRINTED, WIRED, TWICE, NAMED, ASKED, BESIDE, NO_LETTER, HIGHEST_BIT];
