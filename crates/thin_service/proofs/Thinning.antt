@@ -27,19 +27,19 @@ thin-refused s why e = rw e
 module _ {s : List ℕ} {p : Tables} {pre post excited : List ℕ} (k : Past10 s p pre post excited) {r : Reduction}
     (t : Thins (p .counts) pre (p .place) excited r) where
   -- what the rows say of 11 and 12 and of thinning is what the model says
-  told : ThinsTo (system (k .held .value)) (k .held .value .machines) r
+  pub thins-told : ThinsTo (system (k .held .value)) (k .held .value .machines) r
   unfolding systemOf
-  told =
+  thins-told =
       let h = k .held .told in
       t .thins _ _ post (k .cover) (sym (ap (λ (x : TransitionSystem). x .states) (h .tells-system))) (sym (ap (λ (x : TransitionSystem). x .events) (h .tells-system)))
       (sym (h .tells-machines .counted))
 
   pub refused-by-cover : {why : D.Refusal} → r ≡ R.Refused why → thinned (T.Refused why) ≡ numberedSet (Services.thin s)
   unfolding ThinsTo
-  refused-by-cover {why} e = thin-refused s why (refused-cover k why (subst (ThinsTo (system (k .held .value)) (k .held .value .machines)) e told))
+  refused-by-cover {why} e = thin-refused s why (refused-cover k why (subst (ThinsTo (system (k .held .value)) (k .held .value .machines)) e thins-told))
 
   pub kept : {x : Kept} → r ≡ R.To x → thinned (T.Kept (x .machines) (x .size)) ≡ numberedSet (Services.thin s)
   unfolding Services.thin Services.keptOf thinned numberedSet ThinsTo
   kept e =
-      let (covered, keeps) = subst (ThinsTo (system (k .held .value)) (k .held .value .machines)) e told in
+      let (covered, keeps) = subst (ThinsTo (system (k .held .value)) (k .held .value .machines)) e thins-told in
       rw (covered-12 k covered, keeps .machines, keeps .size)
