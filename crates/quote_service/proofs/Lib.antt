@@ -1,0 +1,2 @@
+-- The laws behind Quote: its ways out.
+pub mod Handing
