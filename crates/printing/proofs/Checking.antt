@@ -15,11 +15,13 @@ use Rattle.model.specs.Refusal.{Refusal, refuse, Checked, refused, passed, need
 use Rattle.model.specs.Sheet.{Board, writtenSheet, sheet}
 use Rattle.model.specs.Text.{Input}
 use Rattle.model.specs.Merging.{mergedInput}
-use Rattle.model.specs.Services.{asFarAs12, Lent, lend, check, merge, writtenRefusal, writtenAnswer, printed}
+use Rattle.model.specs.Quotation.{quotation}
+use Rattle.model.specs.Services.{asFarAs12, Lent, lend, check, merge, quote, writtenRefusal, writtenAnswer, printed}
 use Rattle.model.specs.Board.{readSheet, rewrite}
-use Rattle.model.specs.Printed.{printedBy, fitting, printedCheck, printedMerge, printedSheet}
+use Rattle.model.specs.Printed.{printedBy, fitting, printedCheck, printedMerge, printedQuote, printedSheet}
 use Rattle.model.proofs.Demands.{demand1, demand2}
 use Rattle.model.proofs.Merges.{merges-hold}
+use Rattle.model.proofs.Quotes.{quoting-holds}
 use Rattle.answers.specs.declared.Answer.{Answer}
 use Rattle.answers.specs.declared.Answer.the-variants.{Refused, Accepted}
 use Rattle.answers.specs.Answers.{answered}
@@ -134,6 +136,20 @@ module _ (s out : List ℕ) (h : length out ≡ 32768) {a : Checked ℕ} where
   pub merge-printed : {left : List ℕ} (lent : ℕ) → (a ≡ merge s out .answer) × (left ≡ merge s out .left) → lentLine lent a left ≡ printedMerge s lent
   unfolding merge printedMerge
   merge-printed lent l = left-printed (asFarAs12 s) (λ v. sheet (mergedInput v)) (merge-fits s) out h lent l
+
+-- ---- the quotation
+
+quote-fits : (s : List ℕ) (v : Input) → asFarAs12 s ≡ passed v → length (quotation v) ≤ 32768
+quote-fits s v e = omega (arith, quoting-holds s .quoted v (demand2 s .as-far-as-12 .passes v .0 e) .2 .longest)
+
+module _ (s out : List ℕ) (h : length out ≡ 32768) {a : Checked ℕ} where
+  pub quote-left : a ≡ quote s out .answer → FitsBuffer a
+  unfolding quote
+  quote-left e = left-fits (asFarAs12 s) quotation (quote-fits s) out h (e, refl)
+
+  pub quote-printed : {left : List ℕ} (lent : ℕ) → (a ≡ quote s out .answer) × (left ≡ quote s out .left) → lentLine lent a left ≡ printedQuote s lent
+  unfolding quote printedQuote
+  quote-printed lent l = left-printed (asFarAs12 s) quotation (quote-fits s) out h lent l
 
 -- ---- the sheet that is read
 

@@ -4,7 +4,7 @@
 pub mod Showing
 pub mod Lines
 pub mod Lengths
--- Check, Merge and Sheet, Steps, and Name, by their ways out
+-- Check, Merge, Quote and Sheet, Steps, and Name, by their ways out
 pub mod Checking
 pub mod Steps
 pub mod Naming

@@ -5,7 +5,7 @@ ghost use Prim.Native.Nat.{_+_, _*_, _≤_};
 ghost use lib.ListN.{length, take};
 ghost use Rattle.model.specs.Cases.{tabled};
 ghost use Rattle.model.specs.Services.{writtenRefusal};
-ghost use Rattle.model.specs.Printed.{printedCheck, transitionLine, printedSteps, printedName, placesWord, printedRun, joined, printedThin, printedMerge, printedSheet, printedBoard};
+ghost use Rattle.model.specs.Printed.{printedCheck, transitionLine, printedSteps, printedName, placesWord, printedRun, joined, printedThin, printedMerge, printedQuote, printedSheet, printedBoard};
 ghost use Rattle.rows.specs.Told.{firstTransitions};
 ghost use Rattle.stages.specs.Stages.{ReadAsFarAs7, ReadAsFarAs12};
 ghost use Rattle.writers.specs.Written.{Writes};
@@ -22,6 +22,7 @@ use model::Refusal;
 use name_service::name_in_plan;
 use product::Outcome;
 use product::RunAnswer;
+use quote_service::quote;
 use rows::Verdict;
 use rows::wide;
 use run_service::run_in_split;
@@ -73,6 +74,15 @@ pub fn print_merge(text: &[u8], lent: usize, out: &mut [u8]) -> usize
 {
     let merged = merge(text, out);
     print_lent(merged, lent, out)
+}
+
+// The quotation of the thinned split.
+pub fn print_quote(text: &[u8], lent: usize, out: &mut [u8]) -> usize
+    requires { ⌜ length (now out) ≡ 32768 ⌝ }
+    ensures { λ r. ⌜ Shows (printedQuote (now (text .entry)) lent) r (now (out .exit)) ⌝ }
+{
+    let quoted = quote(text, out);
+    print_lent(quoted, lent, out)
 }
 
 // The machines of a sheet, written again.
