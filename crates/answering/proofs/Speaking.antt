@@ -11,16 +11,19 @@ use Rattle.model.specs.Cases.{tabled}
 use Rattle.model.specs.Refusal.{Refusal, Checked, refused, passed, _>>=_}
 use Rattle.model.specs.TransitionSystem.{Transition}
 use Rattle.model.specs.Product.{Ran}
+use Rattle.model.specs.Bytes as B
 use Rattle.model.specs.Bytes.{bytes}
+use Rattle.model.specs.Text.{Input}
 use Rattle.model.specs.Sheet.{writtenCount, writtenSheet, boardOf, sheet}
 use Rattle.model.specs.Sheet as Sheets
 use Rattle.model.specs.Merging.{mergedInput}
+use Rattle.model.specs.Quotation.{Charge, writtenCharge, total, writtenTotal, writtenCharges, quotation}
 use Rattle.model.specs.Board.{readSheet, runBoard}
 use Rattle.model.specs.BoardTable.{ended}
 use Rattle.model.specs.Services.{Part, Kept, asFarAs7, asFarAs12, name, runInput, thin, writtenRefusal}
-use Rattle.model.specs.Printed.{printedBy, fitting, printedCheck, transitionLines, printedSteps, nameLine, printedName, ranWord, placesWord, ranLine, printedRun, keptLine, printedThin, printedMerge, printedSheet, printedBoard}
+use Rattle.model.specs.Printed.{printedBy, fitting, printedCheck, transitionLines, printedSteps, nameLine, printedName, ranWord, placesWord, ranLine, printedRun, keptLine, printedThin, printedMerge, printedQuote, printedSheet, printedBoard}
 use Rattle.command_line.specs.declared.Service.{Service}
-use Rattle.command_line.specs.declared.Service.the-variants.{Check, Steps, Name, Run, Thin, Merge, Sheet, Board, Help, Explain, Unknown}
+use Rattle.command_line.specs.declared.Service.the-variants.{Check, Steps, Name, Run, Thin, Merge, Quote, Sheet, Board, Help, Explain, Unknown}
 use Rattle.command_line.specs.Words.{serviceSaid}
 use Rattle.command_line.specs.Program.{sizeSaid, oneEventSaid, eventsSaid, namesOf, answerThin, answerBy, answerTo}
 use Rattle.model.proofs.Laws.{order}
@@ -69,11 +72,14 @@ fitting-speaks lent xs h = go (order lent (length xs))
     go (inl l) = subst (λ (w : List ℕ). 0 < length w) (printed-short (λ w. w) lent xs refl l) (refusal-speaks (tabled (BufferTooShort (length xs))))
     go (inr l) = subst (λ (w : List ℕ). 0 < length w) (printed-all (λ w. w) lent xs l) h
 
+bytes-speak : {A : Type 0} (f : A → List ℕ) → ((v : A) → 0 < length (f v)) → (lent : ℕ) (c : Checked A) → 0 < length (printedBy (λ w. w) (c >>= λ v. fitting lent (f v)))
+unfolding printedBy
+bytes-speak f h lent (refused r) = refusal-speaks r
+bytes-speak f h lent (passed v) = fitting-speaks lent (f v) (h v)
+
 -- a sheet is printed, a text's or the one that is read
 lent-speaks : {A : Type 0} (f : A → Sheets.Board) (lent : ℕ) (c : Checked A) → 0 < length (printedBy (λ w. w) (c >>= λ v. fitting lent (writtenSheet (f v))))
-unfolding printedBy
-lent-speaks f lent (refused r) = refusal-speaks r
-lent-speaks f lent (passed v) = fitting-speaks lent (writtenSheet (f v)) (sheet-speaks (f v))
+lent-speaks f lent c = bytes-speak (λ v. writtenSheet (f v)) (λ v. sheet-speaks (f v)) lent c
 
 check-speaks : (s : List ℕ) (lent : ℕ) → 0 < length (printedCheck s lent)
 unfolding printedCheck sheet
@@ -82,6 +88,19 @@ check-speaks s lent = lent-speaks boardOf lent (asFarAs12 s)
 merge-speaks : (s : List ℕ) (lent : ℕ) → 0 < length (printedMerge s lent)
 unfolding printedMerge sheet
 merge-speaks s lent = lent-speaks (λ v. boardOf (mergedInput v)) lent (asFarAs12 s)
+
+-- the total's line is always there
+charges-speak : (names : List B.Name) (cs : List Charge) → 0 < length (writtenCharges names cs)
+unfolding writtenCharges writtenTotal
+charges-speak names cs = omega (arith, length-append (flatMap (writtenCharge names) cs) (writtenTotal (total cs)))
+
+quotation-speaks : (v : Input) → 0 < length (quotation v)
+unfolding quotation
+quotation-speaks v = charges-speak (v .names) _
+
+quote-speaks : (s : List ℕ) (lent : ℕ) → 0 < length (printedQuote s lent)
+unfolding printedQuote
+quote-speaks s lent = bytes-speak quotation quotation-speaks lent (asFarAs12 s)
 
 sheet-printed : (s : List ℕ) (lent : ℕ) → 0 < length (printedSheet s lent)
 unfolding printedSheet
@@ -119,6 +138,7 @@ by-answer Run ws s word e =
     mapped (printedRun s) (λ es. printed-speaks ranLine run-speaks (asFarAs12 s >>= λ v. runInput v es)) (eventsSaid (namesOf (asFarAs7 s)) ws) word e
 by-answer Thin ws s word e = thin-answer ws s word e
 by-answer Merge ws s word e = mapped (printedMerge s) (merge-speaks s) (sizeSaid 32768 ws) word e
+by-answer Quote ws s word e = mapped (printedQuote s) (quote-speaks s) (sizeSaid 32768 ws) word e
 by-answer Sheet ws s word e = mapped (printedSheet s) (sheet-printed s) (sizeSaid 32768 ws) word e
 by-answer Board ws s word e = mapped (printedBoard s) (board-printed s) (some (flatMap ended ws)) word e
 by-answer Help ws s word e = nothing-said e

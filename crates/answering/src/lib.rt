@@ -2,7 +2,7 @@
 ghost use mathlib.Core.Path.{_≡_};
 ghost use lib.ListN.{length};
 ghost use Rattle.printing.specs.Shown.{Shows};
-ghost use Rattle.command_line.specs.declared.Service.the-variants.{Check, Steps, Name, Run, Thin, Merge, Sheet, Board};
+ghost use Rattle.command_line.specs.declared.Service.the-variants.{Check, Steps, Name, Run, Thin, Merge, Quote, Sheet, Board};
 ghost use Rattle.command_line.specs.WordRow.{wordsIn, EachEnded};
 ghost use Rattle.answering.specs.Known.{knownNames};
 ghost use Rattle.command_line.specs.Program.{answerBy, answerTo, outputOf};
@@ -20,6 +20,7 @@ use printing::print_board;
 use printing::print_check;
 use printing::print_merge;
 use printing::print_name;
+use printing::print_quote;
 use printing::print_run;
 use printing::print_sheet;
 use printing::print_steps;
@@ -112,6 +113,16 @@ fn answer_merge(words: &[u8], text: &[u8], out: &mut [u8]) -> usize
     print_merge(text, size, out)
 }
 
+fn answer_quote(words: &[u8], text: &[u8], out: &mut [u8]) -> usize
+    requires { ⌜ length (now out) ≡ 32768 ⌝ }
+    ensures { λ r. ⌜ Shows (outputOf (answerBy Quote (wordsIn (now (words .entry))) (now (text .entry)))) r (now (out .exit)) ⌝ }
+{
+    let Said::Number(bytes) = size_said(words, MAX_TEXT) else {
+        return 0;
+    };
+    print_quote(text, bytes, out)
+}
+
 fn answer_sheet(words: &[u8], sheet: &[u8], out: &mut [u8]) -> usize
     requires { ⌜ length (now out) ≡ 32768 ⌝ }
     ensures { λ r. ⌜ Shows (outputOf (answerBy Sheet (wordsIn (now (words .entry))) (now (sheet .entry)))) r (now (out .exit)) ⌝ }
@@ -142,6 +153,7 @@ fn answer_by(asked: Service, words: &mut [u8], text: &[u8], out: &mut [u8]) -> u
         Service::Run => answer_run(words, text, out),
         Service::Thin => answer_thin(words, text, out),
         Service::Merge => answer_merge(words, text, out),
+        Service::Quote => answer_quote(words, text, out),
         Service::Sheet => answer_sheet(words, text, out),
         Service::Board => answer_board(words, text, out),
         Service::Help => 0,

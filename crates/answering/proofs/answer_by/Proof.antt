@@ -46,23 +46,29 @@ answer-merge-requires c κs = search needs
 enum-told-7 : tie.Need-enum-told-7
 enum-told-7 c = search needs
 
-answer-sheet-requires : tie.Need-answer-sheet-requires
-answer-sheet-requires c κs = search needs
+answer-quote-requires : tie.Need-answer-quote-requires
+answer-quote-requires c κs = search needs
 
 enum-told-8 : tie.Need-enum-told-8
 enum-told-8 c = search needs
 
-answer-board-requires : tie.Need-answer-board-requires
-answer-board-requires c κs = search needs
+answer-sheet-requires : tie.Need-answer-sheet-requires
+answer-sheet-requires c κs = search needs
 
 enum-told-9 : tie.Need-enum-told-9
 enum-told-9 c = search needs
+
+answer-board-requires : tie.Need-answer-board-requires
+answer-board-requires c κs = search needs
 
 enum-told-10 : tie.Need-enum-told-10
 enum-told-10 c = search needs
 
 enum-told-11 : tie.Need-enum-told-11
 enum-told-11 c = search needs
+
+enum-told-12 : tie.Need-enum-told-12
+enum-told-12 c = search needs
 
 same-length : tie.Need-same-length
 same-length c = search needs
@@ -125,7 +131,7 @@ same-length-14 : tie.Need-same-length-14
 same-length-14 c = search needs
 
 returns-7 : tie.Need-returns-7
-returns-7 c = shows-answer (asked-as _ _ (c .before .before .before .before .before .enum-told7 .given .1)) (c .before .before .answer-sheet .ensures)
+returns-7 c = shows-answer (asked-as _ _ (c .before .before .before .before .before .enum-told7 .given .1)) (c .before .before .answer-quote .ensures)
 
 same-length-15 : tie.Need-same-length-15
 same-length-15 c = search needs
@@ -134,11 +140,16 @@ same-length-16 : tie.Need-same-length-16
 same-length-16 c = search needs
 
 returns-8 : tie.Need-returns-8
-returns-8 c = shows-answer (asked-as _ _ (c .before .before .before .before .before .before .before .enum-told8 .given .1)) (c .before .before .before .before .answer-board .ensures)
+returns-8 c = shows-answer (asked-as _ _ (c .before .before .before .before .before .enum-told8 .given .1)) (c .before .before .answer-sheet .ensures)
+
+same-length-17 : tie.Need-same-length-17
+same-length-17 c = search needs
+
+same-length-18 : tie.Need-same-length-18
+same-length-18 c = search needs
 
 returns-9 : tie.Need-returns-9
-unfolding answerBy
-returns-9 c = shows-none (asked-as _ _ (c .enum-told9 .given .1)) (search needs)
+returns-9 c = shows-answer (asked-as _ _ (c .before .before .before .before .before .before .before .enum-told9 .given .1)) (c .before .before .before .before .answer-board .ensures)
 
 returns-10 : tie.Need-returns-10
 unfolding answerBy
@@ -147,6 +158,10 @@ returns-10 c = shows-none (asked-as _ _ (c .enum-told10 .given .1)) (search need
 returns-11 : tie.Need-returns-11
 unfolding answerBy
 returns-11 c = shows-none (asked-as _ _ (c .enum-told11 .given .1)) (search needs)
+
+returns-12 : tie.Need-returns-12
+unfolding answerBy
+returns-12 c = shows-none (asked-as _ _ (c .enum-told12 .given .1)) (search needs)
 
 pub answer-by-spec : {M : Type 1} → statement M
 answer-by-spec =
@@ -165,12 +180,14 @@ answer-by-spec =
     enum-told-6
     answer-merge-requires
     enum-told-7
-    answer-sheet-requires
+    answer-quote-requires
     enum-told-8
-    answer-board-requires
+    answer-sheet-requires
     enum-told-9
+    answer-board-requires
     enum-told-10
     enum-told-11
+    enum-told-12
     same-length
     same-length-2
     returns
@@ -195,6 +212,9 @@ answer-by-spec =
     same-length-15
     same-length-16
     returns-8
+    same-length-17
+    same-length-18
     returns-9
     returns-10
-    returns-11)
+    returns-11
+    returns-12)
