@@ -10,6 +10,7 @@ pub use name_service::name;
 pub use name_service::name_refusal;
 pub use product::Outcome;
 pub use product::RunAnswer;
+pub use quote_service::quote;
 pub use run_service::run;
 pub use steps_service::steps;
 pub use thin_service::Thinned;
