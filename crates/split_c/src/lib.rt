@@ -19,6 +19,7 @@ use splitter::board;
 use splitter::check;
 use splitter::merge;
 use splitter::numbers;
+use splitter::quote;
 use splitter::run;
 use splitter::sheet;
 use splitter::steps;
@@ -119,13 +120,21 @@ pub extern "C" fn split_thin(text: &[u8]) -> SplitSet
     }
 }
 
-// What merge answers is flat as what check answers.
+// What merge and quote answer is flat as what check answers.
 #[no_mangle]
 pub extern "C" fn split_merge(text: &[u8], out: &mut [u8]) -> FlatAnswer
     ensures { λ r. ⌜ r ≡ flatAnswer (Services.merge (now (text .entry)) (now (out .entry)) .answer) ⌝ }
     ensures { λ _. ⌜ now (out .exit) ≡ Services.merge (now (text .entry)) (now (out .entry)) .left ⌝ }
 {
     flat_answer(merge(text, out))
+}
+
+#[no_mangle]
+pub extern "C" fn split_quote(text: &[u8], out: &mut [u8]) -> FlatAnswer
+    ensures { λ r. ⌜ r ≡ flatAnswer (Services.quote (now (text .entry)) (now (out .entry)) .answer) ⌝ }
+    ensures { λ _. ⌜ now (out .exit) ≡ Services.quote (now (text .entry)) (now (out .entry)) .left ⌝ }
+{
+    flat_answer(quote(text, out))
 }
 
 // The two calls on a sheet, as a board has them (board_c).
