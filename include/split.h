@@ -19,10 +19,10 @@
  *     split_run     15,360    61,440
  *     split_thin    15,360    92,160
  *     split_merge   19,456    93,184
- *     split_quote   19,456    93,184
+ *     split_quote   17,408    92,160
  *     split_sheet    6,144     6,144
  *     split_board    7,168     6,144
- *     all nine      33,792    93,184
+ *     all nine      35,840    93,184
  *
  * Both are measured, not proved, and rounded up; tests/library/check measures again. Code is what
  * the library adds to a program that calls this service only, linked with --gc-sections, its
