@@ -22,7 +22,8 @@ use Rattle.merging.specs.Groups.{ungrouped, barredBy}
 use Rattle.merging.proofs.Barring.{Barred}
 use Rattle.merging.proofs.Parting.{single, mem-elem, elem-mem, group-number, group-low, group-some, rest-out}
 use Rattle.merging.proofs.Joined.{splitBy, merge-split, count-split, merge-seams}
-use Rattle.merging.proofs.Rising.{Rising, rising-before, rising-without, at-beyond, past-left, past-all}
+use Rattle.model.proofs.Rising.{Rising}
+use Rattle.merging.proofs.Rising.{rising-before, rising-without, at-beyond, past-left, past-all}
 use Rattle.merging.proofs.Pairs.{Stands, refused, allowed, free-stands, first-is}
 
 pub times-step : (t : ℕ) (p : TransitionSystem) (k : ℕ) (ms ns : Decomposition) → mergeFirst p k ms ≡ some ns → mergeTimes (suc t) p k ms ≡ mergeTimes t p k ns
@@ -77,7 +78,7 @@ module _ (p : TransitionSystem) (b : Within p) (os front back : Decomposition) (
   -- these groups are places by now, and so are the other places, which rise
   pub record Stage (gs : List (List ℕ)) (rest : List ℕ) : Type 0 where
     pub stands : Standing (gs ++ map single rest)
-    pub rising : Rising rest
+    pub rising : Rising _<_ rest
 
   abbrev test : List (List ℕ) → List ℕ → ℕ → Bool
   test gs g q = ungrouped (gs ++ (g ∷ [])) q && not (barredBy bars g q)

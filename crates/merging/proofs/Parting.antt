@@ -14,7 +14,7 @@ use Rattle.model.specs.Machine.{placeIn}
 use Rattle.model.specs.Merging.{mergePlaces, mergeMachine}
 use Rattle.model.proofs.Laws.{not-T, contra, eqb-of, not-lt, or-e, exists-intro}
 use Rattle.model.proofs.ListLaws.{map-mem}
-use Rattle.model.proofs.Positions.{at-mem, below-at, mem-at, at-below, number-at, at-number, length-numbers}
+use Rattle.model.proofs.Positions.{numbers-below, at-mem, below-at, number-at, at-number}
 use Rattle.model.proofs.Counting.{count-append, count-some, count-twice}
 use Rattle.model.proofs.Bounds.{Within, ListedPlace, Listed}
 use Rattle.model.proofs.Places.{Good, home}
@@ -116,9 +116,6 @@ module _ {n : ℕ} (gs : List (List ℕ)) (rest : List ℕ) (r : Parts n (gs ++ 
 -- ---- at the beginning each place is by itself
 numbers-once : (n x : ℕ) → count (eqb x) (numbers n) ≤ 1
 numbers-once n x = not-lt 1 (count (eqb x) (numbers n)) (λ h. let w = count-twice x (numbers n) h in omega (arith, w .2, at-number n (w .0) x (w .3), at-number n (w .1) x (w .4)))
-
-pub numbers-below : (n x : ℕ) → List·Memᴰ x (numbers n) → x < n
-numbers-below n x k = let w = mem-at (numbers n) x k in omega (arith, at-number n (w .0) x (w .1), at-below (numbers n) (w .0) x (w .1), length-numbers n)
 
 pub single-parts : (n : ℕ) → Parts n (map single (numbers n))
 single-parts n =

@@ -1,44 +1,35 @@
 -- Lists in rising order, and laws of positions in lists put together.
 use Prim.Native.Nat.{ℕ, zero, suc, _<_, _≤_}
 use native.Mathlib.Omega.{arith}
-use mathlib.Core.Path.{refl, sym, subst}
+use mathlib.Core.Path.{sym, subst}
 use mathlib.Core.Logic.{_⊎_, inl, inr}
 use mathlib.Core.Bool.{Bool, not, cond}
-use mathlib.Core.List.{List, [], _∷_, _++_, flatten, List·Memᴰ, List·Memᴰ·head, List·Memᴰ·tail, List·Memᴰ·append-cases}
+use mathlib.Core.List.{List, [], _∷_, _++_, flatten, List·Memᴰ, List·Memᴰ·head, List·Memᴰ·tail}
 use lib.Dec.{T}
 use lib.ListN.{length}
 use Rattle.model.specs.Lists.{At, index, elem, numbers}
 use Rattle.model.specs.Machine.{placeIn}
 use Rattle.model.proofs.Laws.{dec, not-T, T-true, T-false}
-use Rattle.model.proofs.Positions.{at-mem, mem-at, at-below, index-first}
+use Rattle.model.proofs.Positions.{numbers-below, at-mem, mem-at, at-below, index-first}
 use Rattle.model.proofs.Places.{home}
+use Rattle.model.proofs.Rising.{Rising, rising-append}
 use Rattle.merging.specs.Groups.{ungrouped}
 use Rattle.merging.proofs.Middle.{mid-here, mid-other}
-use Rattle.merging.proofs.Parting.{numbers-below}
 
-abbrev pub Rising : List ℕ → Type 0
-Rising [] = Unit {0}
-Rising (x ∷ l) = ((y : ℕ) → List·Memᴰ y l → x < y) × Rising l
-
-rising-snoc : (l : List ℕ) (x : ℕ) → Rising l → ((y : ℕ) → List·Memᴰ y l → y < x) → Rising (l ++ (x ∷ []))
-rising-snoc [] x r h = (λ y k. elim k [ ], tt)
-rising-snoc (z ∷ l) x r h = (λ y k. go y (List·Memᴰ·append-cases l k), rising-snoc l x (r .1) (λ y k. h y (List·Memᴰ·tail k)))
-  where
-    go : (y : ℕ) → List·Memᴰ y l ⊎ List·Memᴰ y (x ∷ []) → z < y
-    go y (inl k) = r .0 y k
-    go y (inr (List·Memᴰ·head e)) = subst (λ (v : ℕ). z < v) (sym e) (h z (List·Memᴰ·head refl))
-    go y (inr (List·Memᴰ·tail k)) = elim k [ ]
-
-pub rising-numbers : (n : ℕ) → Rising (numbers n)
+pub rising-numbers : (n : ℕ) → Rising _<_ (numbers n)
 unfolding numbers
 rising-numbers zero = tt
-rising-numbers (suc n) = rising-snoc (numbers n) n (rising-numbers n) (λ y k. numbers-below n y k)
+rising-numbers (suc n) = rising-append _<_ (numbers n) (n ∷ []) (rising-numbers n) (λ y j. elim j [ ], tt) last
+  where
+    last : (x y : ℕ) → List·Memᴰ x (numbers n) → List·Memᴰ y (n ∷ []) → x < y
+    last x y k (List·Memᴰ·head e) = subst (λ (v : ℕ). x < v) (sym e) (numbers-below n x k)
+    last x y k (List·Memᴰ·tail j) = elim j [ ]
 
-pub rising-before : (l : List ℕ) (q : ℕ) (k : List ℕ) → Rising (l ++ (q ∷ k)) → (y : ℕ) → List·Memᴰ y l → y < q
+pub rising-before : (l : List ℕ) (q : ℕ) (k : List ℕ) → Rising _<_ (l ++ (q ∷ k)) → (y : ℕ) → List·Memᴰ y l → y < q
 rising-before (x ∷ l) q k r y (List·Memᴰ·head e) = subst (λ (v : ℕ). v < q) (sym e) (r .0 q (mid-here q l k))
 rising-before (x ∷ l) q k r y (List·Memᴰ·tail m) = rising-before l q k (r .1) y m
 
-pub rising-without : (l : List ℕ) (q : ℕ) (k : List ℕ) → Rising (l ++ (q ∷ k)) → Rising (l ++ k)
+pub rising-without : (l : List ℕ) (q : ℕ) (k : List ℕ) → Rising _<_ (l ++ (q ∷ k)) → Rising _<_ (l ++ k)
 rising-without [] q k r = r .1
 rising-without (x ∷ l) q k r = (λ y m. r .0 y (mid-other y q l k m), rising-without l q k (r .1))
 

@@ -12,51 +12,39 @@ use Rattle.model.specs.Lists.{At, satisfying, numbers}
 use Rattle.model.specs.Quotation.{chosen}
 use Rattle.model.proofs.Laws.{satisfying-intro, satisfying-elim}
 use Rattle.model.proofs.ListLaws.{map-mem}
-use Rattle.model.proofs.Positions.{at-mem, number-at}
+use Rattle.model.proofs.Positions.{at-mem, number-at, numbers-below}
 
 module _ {A : Type 0} where
   -- each element stands in this relation to all after it
-  pub data Rising (R : A → A → Type 0) : List A → Type 0 where
-    none-left : Rising R []
-    then : {x : A} {l : List A} → ((y : A) → List·Memᴰ y l → R x y) → Rising R l → Rising R (x ∷ l)
+  abbrev pub Rising : (A → A → Type 0) → List A → Type 0
+  Rising R [] = Unit {0}
+  Rising R (x ∷ l) = ((y : A) → List·Memᴰ y l → R x y) × Rising R l
 
   pub rising-at : (R : A → A → Type 0) (l : List A) → Rising R l → (a b : ℕ) (x y : A) → a < b → At l a x → At l b y → R x y
   rising-at R [] r a b x y h p q = absurd (Option·none-ne-some x p)
   rising-at R (z ∷ l) r a zero x y h p q = absurd (omega arith)
-  rising-at R (z ∷ l) (then f r) zero (suc b) x y h p q = subst (λ (u : A). R u y) (Option·some-injective z x p) (f y (at-mem l b y q))
-  rising-at R (z ∷ l) (then f r) (suc a) (suc b) x y h p q = rising-at R l r a b x y (omega arith) p q
+  rising-at R (z ∷ l) r zero (suc b) x y h p q = subst (λ (u : A). R u y) (Option·some-injective z x p) (r .0 y (at-mem l b y q))
+  rising-at R (z ∷ l) r (suc a) (suc b) x y h p q = rising-at R l (r .1) a b x y (omega arith) p q
 
   pub rising-append : (R : A → A → Type 0) (l m : List A) → Rising R l → Rising R m → ((x y : A) → List·Memᴰ x l → List·Memᴰ y m → R x y) → Rising R (l ++ m)
   rising-append R [] m r s h = s
-  rising-append R (x ∷ l) m (then f r) s h =
-      then (λ y k. go y (List·Memᴰ·append-cases l k)) (rising-append R l m r s (λ u v i j. h u v (List·Memᴰ·tail i) j))
+  rising-append R (x ∷ l) m r s h = (λ y k. go y (List·Memᴰ·append-cases l k), rising-append R l m (r .1) s (λ u v i j. h u v (List·Memᴰ·tail i) j))
     where
       go : (y : A) → List·Memᴰ y l ⊎ List·Memᴰ y m → R x y
-      go y (inl i) = f y i
+      go y (inl i) = r .0 y i
       go y (inr j) = h x y (List·Memᴰ·head refl) j
 
 module _ {A B : Type 0} where
   pub rising-map : (R : A → A → Type 0) (S : B → B → Type 0) (f : A → B) → ((x y : A) → R x y → S (f x) (f y)) → (l : List A) → Rising R l → Rising S (map f l)
-  rising-map R S f h [] r = none-left
-  rising-map R S f h (x ∷ l) (then g r) =
-      then (λ y k. let w = map-mem f l y k in subst (S (f x)) (sym (w .2)) (h x (w .0) (g (w .0) (w .1)))) (rising-map R S f h l r)
+  rising-map R S f h [] r = tt
+  rising-map R S f h (x ∷ l) r = (λ y k. let w = map-mem f l y k in subst (S (f x)) (sym (w .2)) (h x (w .0) (r .0 (w .0) (w .1))), rising-map R S f h l (r .1))
 
 -- ---- the numbers below n that pass a test
-
-below-of : (n k : ℕ) → List·Memᴰ k (numbers n) → k < n
-unfolding numbers
-below-of zero k m = elim m [ ]
-below-of (suc n) k m = go (List·Memᴰ·append-cases (numbers n) m) (below-of n k)
-  where
-    go : List·Memᴰ k (numbers n) ⊎ List·Memᴰ k (n ∷ []) → (List·Memᴰ k (numbers n) → k < n) → k < suc n
-    go (inl i) ih = omega (arith, ih i)
-    go (inr (List·Memᴰ·head q)) ih = omega arith
-    go (inr (List·Memᴰ·tail j)) ih = elim j [ ]
 
 module _ (f : ℕ → Bool) where
   pub chosen-mem : (n k : ℕ) → List·Memᴰ k (chosen f n) → (k < n) × T (f k)
   unfolding chosen
-  chosen-mem n k m = let w = satisfying-elim f (numbers n) k m in (below-of n k (w .0), w .1)
+  chosen-mem n k m = let w = satisfying-elim f (numbers n) k m in (numbers-below n k (w .0), w .1)
 
   pub mem-chosen : (n k : ℕ) → k < n → T (f k) → List·Memᴰ k (chosen f n)
   unfolding chosen
@@ -93,7 +81,7 @@ module _ (f : ℕ → Bool) where
   chosen-no n e = chosen-next n ∙ ap (λ (b : Bool). cond b (chosen f n ++ (n ∷ [])) (chosen f n)) e
 
   pub chosen-rising : (n : ℕ) → Rising _<_ (chosen f n)
-  chosen-rising zero = rw chosen-none none-left
+  chosen-rising zero = rw chosen-none tt
   chosen-rising (suc n) = rw (chosen-next n) (go (f n) (chosen-rising n))
     where
       last : (x y : ℕ) → List·Memᴰ x (chosen f n) → List·Memᴰ y (n ∷ []) → x < y
@@ -101,7 +89,7 @@ module _ (f : ℕ → Bool) where
       last x y i (List·Memᴰ·tail j) = elim j [ ]
 
       go : (b : Bool) → Rising _<_ (chosen f n) → Rising _<_ (cond b (chosen f n ++ (n ∷ [])) (chosen f n))
-      go true r = rising-append _<_ (chosen f n) (n ∷ []) r (then (λ y j. elim j [ ]) none-left) last
+      go true r = rising-append _<_ (chosen f n) (n ∷ []) r (λ y j. elim j [ ], tt) last
       go false r = r
 
   pub chosen-length : (n : ℕ) → length (chosen f n) ≤ n

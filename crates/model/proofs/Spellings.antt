@@ -12,7 +12,7 @@ use Rattle.model.specs.Refusal.{refusalOf, refuse, refused}
 use Rattle.model.specs.Bytes.{Name, Letter}
 use Rattle.model.specs.Form.{Line, states, events, step, machine, written, Respelt}
 use Rattle.model.specs.Text.{read, lineTwo, nameAt}
-use Rattle.model.specs.Services.{asFarAs7, asFarAs10, asFarAs12, check, printed, steps, name, nameRefusal, run, thin, merge}
+use Rattle.model.specs.Services.{asFarAs7, asFarAs10, asFarAs12, check, printed, steps, name, nameRefusal, run, thin, merge, quote}
 use Rattle.model.specs.Spelling.{SameButCase, OneEventLaws, RespeltText, AnsweredAlike}
 use Rattle.model.proofs.Laws.{order, T-false, not-T}
 use Rattle.model.proofs.LineEnds.{line-two}
@@ -111,7 +111,7 @@ module _ (s t : List ℕ) (r : RespeltText s t) where
   same-name e = rw (same-7, same-line-two) refl
 
   pub respelling-holds : AnsweredAlike s t
-  unfolding check printed steps nameRefusal run thin merge
+  unfolding check printed steps nameRefusal run thin merge quote
   respelling-holds =
       record {
         reading = same-read;
@@ -123,4 +123,5 @@ module _ (s t : List ℕ) (r : RespeltText s t) where
         running = λ es. rw same-12 refl;
         thinning = rw same-12 refl;
         merging = λ out. rw same-12 refl;
+        quoting = λ out. rw same-12 refl;
       }

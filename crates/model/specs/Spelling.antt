@@ -17,7 +17,7 @@ use Rattle.model.specs.Table.{Begins}
 use Rattle.model.specs.Sheet.{NamedMove, NamedLine, Board, writtenCount, writtenLine}
 use Rattle.model.specs.Board.{readSheet, boardRun}
 use Rattle.model.specs.BoardTable.{BeginsSheet}
-use Rattle.model.specs.Services.{check, printed, steps, name, nameRefusal, run, thin, merge}
+use Rattle.model.specs.Services.{check, printed, steps, name, nameRefusal, run, thin, merge, quote}
 
 -- b is the capital a as a small letter
 pub record SmallOf (a b : ℕ) : Type 0 where
@@ -63,6 +63,7 @@ pub record AnsweredAlike (s t : List ℕ) : Type 0 where
   pub running : (es : List ℕ) → run s es ≡ run t es
   pub thinning : thin s ≡ thin t
   pub merging : (out : List ℕ) → merge s out ≡ merge t out
+  pub quoting : (out : List ℕ) → quote s out ≡ quote t out
 
 -- ---- "sheets included"
 

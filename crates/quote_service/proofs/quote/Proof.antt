@@ -4,7 +4,7 @@ use denote.Ref.{now}
 use borrow.Author.Needs.{needs}
 use Rattle.rows.specs.Tables.{tablesIn}
 use Rattle.stages.specs.Stages.{Past10}
-use Rattle.stages.proofs.Stages.{fresh, fresh-rows, refused-text-10, past-text-10, counts-bounded}
+use Rattle.stages.proofs.Stages.{fresh, fresh-rows, refused-text-10, past-text-10}
 use Rattle.quote_service.proofs.Handing.{quote-refused}
 use Rattle.quote_service.proofs.quote.Statement.{statement}
 use Rattle.quote_service.proofs.quote.Tie as tie

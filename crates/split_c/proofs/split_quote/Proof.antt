@@ -1,5 +1,4 @@
--- `split_c::split_quote` meets its contract: what is called answers as the model's quote does, and is made flat. The call is not named, so that
--- another in its place fails by what it answers (must-fail).
+-- `split_c::split_quote` meets its contract: what is called answers as the model's quote does, and is made flat. The call is not named, as in `split_merge`.
 use borrow.Author.Needs.{needs}
 use mathlib.Core.Path.{ap, _∙_}
 use Rattle.flat.specs.Flat.{flatAnswer}
