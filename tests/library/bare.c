@@ -61,6 +61,19 @@ static int thins(void)
     return FORKED(fork) && fork.machines == 0 && fork.size == 0 && ANSWERED(both) && both.machines == 3 && both.size == 2;
 }
 
+/* A call that lends a buffer: a refused text leaves size 0, one byte too few gets 13 and changes none, and just enough is
+   written. */
+static int lends(struct split_answer (*call)(const uint8_t *, size_t, uint8_t *, size_t), const uint8_t *text, size_t len,
+                 const char *wanted, size_t size, uint8_t *out)
+{
+    struct split_answer fork = call(TEXT(forked), out, size + 1);
+    struct split_answer asked = call(text, len, out, size - 1);
+    int kept = out[0] == 0;
+    struct split_answer written = call(text, len, out, size + 1);
+    return FORKED(fork) && fork.size == 0 && asked.number == SPLIT_SHORT_SHEET && asked.detail == size && asked.second == 0 &&
+           asked.size == 0 && kept && ANSWERED(written) && written.size == size && same(out, wanted, size + 1);
+}
+
 /* Two machines alike: the first gives all its places away. */
 static int merges(void)
 {
@@ -69,13 +82,7 @@ static int merges(void)
     static const char merged[] = "(accepted 2)\n(machine 0 (places 1) (start 0))\n"
                                  "(machine 1 (places 2) (start 0) (move a 0 1) (move b 1 0))\n";
     uint8_t out[sizeof merged] = {0};
-    struct split_answer fork = split_merge(TEXT(forked), out, sizeof out);
-    struct split_answer asked = split_merge(TEXT(twice), out, sizeof merged - 2);
-    int kept = out[0] == 0;
-    struct split_answer written = split_merge(TEXT(twice), out, sizeof out);
-    return FORKED(fork) && fork.size == 0 && asked.number == SPLIT_SHORT_SHEET && asked.detail == sizeof merged - 1 &&
-           asked.second == 0 && asked.size == 0 && kept && ANSWERED(written) && written.size == sizeof merged - 1 &&
-           same(out, merged, sizeof merged);
+    return lends(split_merge, TEXT(twice), merged, sizeof merged - 1, out);
 }
 
 /* Y with its first machine again, which is dropped: a line of each kind, and one below zero. */
@@ -85,13 +92,7 @@ static int quotes(void)
     static const char quoted[] = "(line machine 0 40028)\n(line machine 1 40028)\n(line wire home 618)\n"
                                  "(line credit 2 -4535)\n(total 76139)\n";
     uint8_t out[sizeof quoted] = {0};
-    struct split_answer fork = split_quote(TEXT(forked), out, sizeof out);
-    struct split_answer asked = split_quote(TEXT(again), out, sizeof quoted - 2);
-    int kept = out[0] == 0;
-    struct split_answer written = split_quote(TEXT(again), out, sizeof out);
-    return FORKED(fork) && fork.size == 0 && asked.number == SPLIT_SHORT_SHEET && asked.detail == sizeof quoted - 1 &&
-           asked.second == 0 && asked.size == 0 && kept && ANSWERED(written) && written.size == sizeof quoted - 1 &&
-           same(out, quoted, sizeof quoted);
+    return lends(split_quote, TEXT(again), quoted, sizeof quoted - 1, out);
 }
 
 static int loads(void)

@@ -77,13 +77,13 @@ module _ {s : List ℕ} {c : Counts} {ats lens sizes place pre excited : List �
     unfolding ThinsTo
     cover-refused {why} e = quote-refused s out why (refused-cover (w .past) why (subst (ThinsTo (system value) (value .machines)) e (thins-told (w .past) t)))
 
-    -- the quotation of the machines that are kept
-    pub handed-over : {x : Kept} (a : Answer) (left : List ℕ) → r ≡ R.To x → HandsOver s c ats lens sizes pre (x .machines) out a left
+    -- the quotation of the machines n, which are those that are kept
+    pub handed-over : {x : Kept} {n : ℕ} (a : Answer) (left : List ℕ) → r ≡ R.To x → n ≡ x .machines → HandsOver s c ats lens sizes pre n out a left
         → (answered a ≡ quote s out .answer) × (left ≡ quote s out .left)
     unfolding ThinsTo quote quotation isKept
-    handed-over {x} a left e h =
+    handed-over {x} {n} a left e m h =
         let (covered, keeps) = subst (ThinsTo (system value) (value .machines)) e (thins-told (w .past) t) in
         let marks = keptMarks (system value) (value .machines) in
-        let told : rowQuotation s c ats lens sizes pre (x .machines) ≡ quotation value =
-        told-quotation (w .past .held .told) (w .past .cover .moves) (x .machines) marks (λ k l. ap (λ (n : ℕ). bit n k) (keeps .machines) ∙ set-number-bit marks k) in
+        let told : rowQuotation s c ats lens sizes pre n ≡ quotation value =
+        told-quotation (w .past .held .told) (w .past .cover .moves) n marks (λ k l. ap (λ (y : ℕ). bit y k) (m ∙ keeps .machines) ∙ set-number-bit marks k) in
         rw (covered-12 (w .past) covered) (subst (λ (q : List ℕ). (answered a ≡ lend (passed q) out .answer) × (left ≡ lend (passed q) out .left)) told h)

@@ -1,5 +1,5 @@
 -- `printing::print_merge` meets its contract: what the call left is what is printed. The call is not named, so that another in its place fails by
--- what it answers (must-fail).
+-- what it answers.
 use borrow.Author.Needs.{needs}
 use denote.Ref.{now}
 use Rattle.printing.proofs.Showing.{shows-same}

@@ -1,4 +1,5 @@
 -- `quote_service::quote_read` meets its contract: both answers are laws of `Handing` at what the calls have said.
+use native.Mathlib.Omega.{arith}
 use borrow.Author.Needs.{needs}
 use Rattle.stages.proofs.Stages.{counts-bounded}
 use Rattle.quote_service.proofs.Handing.{rows-ready, rows-short, cover-refused, handed-over}
@@ -29,7 +30,7 @@ same-length c = search needs
 
 returns-2 : tie.Need-returns-2
 returns-2 c =
-    handed-over (c .before .before .before .before .before .before .before .before .before .before .before .before .before .before .before .before .pre) _ (c .before .before .before .before .before .before .before .remove-redundant .ensures) _ _ (c .before .before .before .before .before .kept .given .1)
+    handed-over (c .before .before .before .before .before .before .before .before .before .before .before .before .before .before .before .before .pre) _ (c .before .before .before .before .before .before .before .remove-redundant .ensures) _ _ (c .before .before .before .before .before .kept .given .1) (omega arith)
     (c .before .before .hand-over-quotation .ensures)
 
 pub quote-read-spec : {M : Type 1} → statement M
