@@ -1,4 +1,6 @@
 // What the program answers to the words of its command line and the text, or the sheet, on its standard input.
+#![tactic(auto)]
+
 ghost use Rattle.std.specs.Prelude.{◌≡◌, length};
 ghost use Rattle.printing.specs.Shown.{Shows};
 ghost use Rattle.command_line.specs.declared.Service.TheVariants.{Check, Steps, Name, Run, Thin, Merge, Quote, Sheet, Board};

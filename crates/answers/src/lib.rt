@@ -1,4 +1,6 @@
 // What a call that lends a list answers, and a refusal as document 01's table has it.
+#![tactic(auto)]
+
 ghost use Rattle.std.specs.Prelude.{◌≡◌};
 ghost use Rattle.model.specs.Cases.{tabled};
 ghost use Rattle.answers.specs.Answers.{numbered};
@@ -6,7 +8,7 @@ ghost use Rattle.answers.specs.Answers.{numbered};
 use model::Refusal;
 
 // The answer of a call that writes into a lent list.
-#[derive(Drop)]
+#[derive(Clone, Copy)]
 pub enum Answer {
     Refused(Refusal),
     // so many of its entries are written: the sheet's bytes, or the transitions

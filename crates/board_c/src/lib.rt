@@ -1,4 +1,6 @@
 // A board's two calls for C and Rust, and nothing of the planner's: each answer is flat, a struct of numbers whose unused fields are 0. include/board.h declares them.
+#![tactic(auto)]
+
 ghost use Rattle.std.specs.Prelude.{◌≡◌};
 ghost use Rattle.model.specs.Board as Board;
 ghost use Rattle.flat.specs.Flat.{flat_answer, flat_run};

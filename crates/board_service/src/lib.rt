@@ -1,4 +1,6 @@
 // The calls that are given a sheet. They take any bytes, and each contract is an equation with the model's definition of the call.
+#![tactic(auto)]
+
 ghost use Rattle.std.specs.Prelude.{◌≡◌};
 ghost use Rattle.model.specs.Board as Board;
 ghost use Rattle.answers.specs.Answers.{answered};

@@ -1,4 +1,6 @@
 // The service Check and sheet. It takes any bytes, and its contract is an equation with the model's definition of it.
+#![tactic(auto)]
+
 ghost use Rattle.std.specs.Prelude.{◌≡◌};
 ghost use Rattle.model.specs.Services as Services;
 ghost use Rattle.sheet.specs.Rows.{SheetReady};

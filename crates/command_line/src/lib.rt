@@ -1,4 +1,6 @@
 // The words of a command line: the service that is asked for, and the number or the event that a word says.
+#![tactic(auto)]
+
 ghost use Rattle.std.specs.Prelude.{◌≡◌, cond, ℕ, ◌≤◌, ◌<◌, eqb, length, drop};
 ghost use mathlib.Core.List.{flat_map};
 ghost use Rattle.std.proofs.Math.Option.{some};
@@ -19,7 +21,7 @@ use rows::narrow;
 mod comparing; // words and names compared
 mod numerals; // numerals, and the numbers that they write
 
-#[derive(Drop)]
+#[derive(Clone, Copy)]
 pub enum Service {
     Check,
     Steps,

@@ -1,4 +1,6 @@
 // Answers made flat for callers in C and Rust: structs of numbers whose unused fields are 0.
+#![tactic(auto)]
+
 ghost use Rattle.std.specs.Prelude.{◌≡◌};
 ghost use Rattle.answers.specs.Answers.{answered};
 ghost use Rattle.product.specs.Answers.{outcome_is, run_answer};

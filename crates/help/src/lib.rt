@@ -1,4 +1,6 @@
 // What the program says of itself: which word is wrong, help, how a text is written, and what each refusal means.
+#![tactic(auto)]
+
 ghost use Rattle.std.specs.Prelude.{◌≤◌, length};
 
 pub use explanations::put_explanation;

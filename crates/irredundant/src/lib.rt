@@ -1,4 +1,6 @@
 // Thin: which machines are kept.
+#![tactic(auto)]
+
 ghost use Rattle.std.specs.Prelude.{◌≡◌, ◌*◌, ◌+◌, ◌<◌, ◌≤◌, length};
 ghost use Rattle.closure.specs.Covers.{CountsBounded, PlaceSets};
 ghost use Rattle.irredundant.specs.Kept.{Sizes, AboveSizes, BesideSizes, Extends, AllStates, Below, Adds, covered_without, redundant, ThinsBySets, Thins};

@@ -1,4 +1,6 @@
 // Words at a position of a text: literals, figures and names.
+#![tactic(auto)]
+
 ghost use Rattle.std.specs.Prelude.{◌≡◌, ◌&&◌, map, ◌+◌, ◌-◌, ◌<◌, min, leb, get_or, take, drop};
 ghost use Rattle.model.specs.Bytes.{is_digit, is_capital, is_letter, is_name_byte, leading};
 ghost use Rattle.model.specs.Bytes as Bytes;

@@ -1,4 +1,6 @@
 // The lines of a text, each at a position: their form, and what they hold as numbers.
+#![tactic(auto)]
+
 ghost use Rattle.std.specs.Prelude.{◌≡◌, ◌≤◌, ◌&&◌, leb};
 ghost use Rattle.model.specs.Reading.{many};
 ghost use Rattle.model.specs.Form.{start_given, states_line, events_line, step_line, machine_line, spaced_name};

@@ -1,4 +1,6 @@
 // The transitions of a text as one row of numbers, three to a transition; and step records filled from such a row.
+#![tactic(auto)]
+
 ghost use Rattle.std.specs.Prelude.{◌≡◌, map, ◌<◌, ◌≤◌, ◌+◌, ◌*◌, length};
 ghost use Rattle.model.specs.Cases.{recorded};
 ghost use Rattle.rows.specs.Told.{first_transitions};

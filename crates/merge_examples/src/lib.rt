@@ -1,1 +1,2 @@
 // No code: splits that are merged, computed by the definitions of the model (specs/Examples). Apart from the model, since each of its must-fail edits would compute them again.
+#![tactic(auto)]

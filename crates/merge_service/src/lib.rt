@@ -1,4 +1,6 @@
 // The service Merge. It takes any bytes, and its contract is an equation with the model's definition of it.
+#![tactic(auto)]
+
 ghost use Rattle.std.specs.Prelude.{◌≡◌, length};
 ghost use Rattle.model.specs.Services as Services;
 ghost use Rattle.answers.specs.Answers.{answered};

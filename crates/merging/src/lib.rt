@@ -1,4 +1,6 @@
 // Merge: which places of each machine become one, and the rows of the machines that this leaves.
+#![tactic(auto)]
+
 ghost use Rattle.std.specs.Prelude.{◌≡◌, suc, ◌+◌, ◌*◌, ◌<◌, ◌≤◌, length};
 ghost use Rattle.closure.specs.Covers.{CountsBounded, PlaceSets};
 ghost use Rattle.merging.specs.Bars.{Ends, Full, SeenSizes, seen};

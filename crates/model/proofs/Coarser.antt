@@ -28,6 +28,10 @@ coarser_refl p [] = nil
 coarser_refl p (m ∷ ms) = each (λ s u ls lu h. h) (coarser_refl p ms)
 
 pub coarser_trans : (p : TransitionSystem) (cs bs ms : Decomposition) → CoarserAll p cs bs → CoarserAll p bs ms → CoarserAll p cs ms
+coarser_trans p [] [] (m ∷ ms) _ x7 = elim x7 [ ]
+coarser_trans p [] (b ∷ bs) ms x5 _ = elim x5 [ ]
+coarser_trans p (c ∷ cs) [] ms x5 _ = elim x5 [ ]
+coarser_trans p (c ∷ cs) (b ∷ bs) [] _ x9 = elim x9 [ ]
 coarser_trans p [] [] [] nil nil = nil
 coarser_trans p (c ∷ cs) (b ∷ bs) (m ∷ ms) (each f fs) (each g gs) = each (λ s u ls lu h. f s u ls lu (g s u ls lu h)) (coarser_trans p cs bs ms fs gs)
 
@@ -58,6 +62,8 @@ module _ (p : TransitionSystem) (b : Within p) where
 
   effective_finer : (cs ms : Decomposition) → CoarserAll p cs ms → (e : ℕ) → T (effective (move p) cs e) → T (effective (move p) ms e)
   unfolding effective exists
+  effective_finer [] (m ∷ ms) x5 e x = elim x5 [ ]
+  effective_finer (c ∷ cs) [] x6 e x = elim x6 [ ]
   effective_finer [] [] nil e x = x
   effective_finer (c ∷ cs) (m ∷ ms) (each f fs) e x = go (or_e (in_alphabet (move p) e c) (exists (in_alphabet (move p) e) cs) x) (effective_finer cs ms fs e)
     where
@@ -67,6 +73,8 @@ module _ (p : TransitionSystem) (b : Within p) where
 
   common_coarser : (cs ms : Decomposition) → CoarserAll p cs ms → ((m : Machine) → Memᴰ m ms → Good p m) → (e s : ℕ) → s < p.states → T (common p ms e s) → T (common p cs e s)
   unfolding common every
+  common_coarser [] (m ∷ ms) x9 g e s l x = elim x9 [ ]
+  common_coarser (c ∷ cs) [] x8 g e s l x = elim x8 [ ]
   common_coarser [] [] nil g e s l x = x
   common_coarser (c ∷ cs) (m ∷ ms) (each f fs) g e s l x =
       and_i (ready p e s c) (every (ready p e s) cs)

@@ -133,6 +133,7 @@ all_states_region p b =
 -- 4: no transition leads from a state to itself
 no_loop : (before ts : List Transition) → transitions_refusal before ts ≡ none → (t : Transition) → Memᴰ t ts → ¬ (t.source ≡ t.target)
 unfolding transitions_refusal transition_refusal
+no_loop before [] n t x3 h = elim x3 [ ]
 no_loop before (y ∷ ts) n t (Memᴰ.head e) h =
     contra (eqb y.source y.target) (cond_none (eqb y.source y.target) _ _ (or_else_none _ _ n).0).0
     (eqb_of y.source y.target (subst (λ (v : Transition). v.source ≡ v.target) e h))

@@ -141,6 +141,7 @@ moves_of (l ∷ b) x m = go (Memᴰ.append_cases l.moves m) (moves_of b x)
 
 pub of_moves : (b : Board) (l : NamedLine) (x : NamedMove) → Memᴰ l b → Memᴰ x l.moves → Memᴰ x (moves_on b)
 unfolding flat_map
+of_moves [] l x x4 i = elim x4 [ ]
 of_moves (k ∷ b) l x (Memᴰ.head q) i = Memᴰ.append_left (moves_on b) (subst (λ (z : NamedLine). Memᴰ x z.moves) q i)
 of_moves (k ∷ b) l x (Memᴰ.tail m) i = Memᴰ.append_right k.moves (of_moves b l x m i)
 

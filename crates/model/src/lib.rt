@@ -1,4 +1,5 @@
 // The types that the crates share. The model's definitions (specs/) and theorems (proofs/) are what the crates above cite.
+#![tactic(auto)]
 
 // The bounds of document 01, "The text".
 pub const MAX_TEXT: usize = 32768;
@@ -23,7 +24,7 @@ pub struct Transition {
 }
 
 // Why a call is refused. Document 01 has the table; a comment gives its number and word there, here and where it is said.
-#[derive(Drop)]
+#[derive(Clone, Copy)]
 pub enum Refusal {
     // 1 misformed
     Malformed { line: usize },

@@ -1,4 +1,6 @@
 // The service Name: where an event's name stands in the text, and the name as the caller's own bytes.
+#![tactic(auto)]
+
 ghost use Rattle.std.specs.Prelude.{◌≡◌, ◌≤◌, length};
 ghost use Rattle.model.specs.Services as Services;
 ghost use Rattle.rows.specs.Tables.{verdict_refusal};

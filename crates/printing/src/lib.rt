@@ -1,4 +1,6 @@
 // What the program prints for each service, at the beginning of a buffer of 32,768 bytes; each answers how many bytes that is.
+#![tactic(auto)]
+
 ghost use Rattle.std.specs.Prelude.{◌≡◌, ◌+◌, ◌*◌, ◌≤◌, length, take};
 ghost use mathlib.Core.List.{flat_map};
 ghost use Rattle.model.specs.Cases.{tabled};
@@ -200,8 +202,9 @@ pub fn print_run(split: CheckedSplit, text: &[u8], events: &[u8], out: &mut [u8]
     requires { ReadAsFarAs12 text.now split.verdict split.tables split.pre split.post split.excited × (length out.old ≡ 32768) }
     ensures { Shows (printed_run text.now events.now) result out.new }
 {
+    let machines = split.tables.counts.machines;
     let answer = run_in_split(split, text, events);
-    print_ran(answer, split.tables.counts.machines, out)
+    print_ran(answer, machines, out)
 }
 
 // The run of a list of names on the machines of a sheet.

@@ -1,4 +1,6 @@
 // Run: the machines together, from given places over a list of events.
+#![tactic(auto)]
+
 ghost use Rattle.std.specs.Prelude.{◌≡◌, [], ◌∷◌, not, cond, ◌||◌, ◌*◌, ◌+◌, ◌<◌, ◌≤◌, eqb, ltb, length};
 ghost use Rattle.model.specs.Lists.{index, lowest};
 ghost use Rattle.model.specs.Refusal as Checked;

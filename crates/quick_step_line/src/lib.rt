@@ -1,4 +1,6 @@
 // A step line read without a branch on its bytes. Where its words lie is guessed by bits, and the guess is verified byte by byte.
+#![tactic(auto)]
+
 ghost use Rattle.std.specs.Prelude.{◌≡◌, ◌+◌, ◌-◌, ◌<◌, ◌≤◌, true, length};
 ghost use Rattle.model.specs.Bytes.{bytes};
 ghost use Rattle.model.proofs.Words.{Spans};

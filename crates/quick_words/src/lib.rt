@@ -1,4 +1,6 @@
 // Words of a text without a branch on their bytes: eight bytes as one number, figures, and names as their numbers.
+#![tactic(auto)]
+
 ghost use Rattle.std.specs.Prelude.{◌≡◌, ◌+◌, ◌-◌, ◌*◌, ◌/◌, ◌%◌, ◌^◌, ◌<◌, ◌≤◌, min, true, [], ◌∷◌, length, if◌then◌else◌};
 ghost use Rattle.model.specs.Reading.{part};
 ghost use Rattle.model.proofs.Words.{Spans};

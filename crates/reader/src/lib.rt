@@ -1,4 +1,6 @@
 // Reads a text into rows of numbers, or refuses it by 1, 2 or 3.
+#![tactic(auto)]
+
 ghost use Rattle.std.specs.Prelude.{◌≡◌, ◌<◌, ◌≤◌};
 ghost use Rattle.std.proofs.Math.Option.{some};
 ghost use Rattle.model.specs.Refusal.{refusal_of};

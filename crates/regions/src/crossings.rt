@@ -7,7 +7,7 @@ use model::MAX_STATES;
 use rows::wide;
 
 // From place to place.
-#[derive(Drop)]
+#[derive(Clone, Copy)]
 pub struct Crossing {
     pub pre: u8,
     pub post: u8,

@@ -1,4 +1,6 @@
 // Refusals 8 to 10 of each machine, and the moves of the events on it.
+#![tactic(auto)]
+
 ghost use Rattle.std.specs.Prelude.{◌≤◌, length};
 ghost use Rattle.regions.specs.Regions.{Checkable, RegionsTold};
 

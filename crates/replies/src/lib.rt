@@ -1,4 +1,6 @@
 // What the words of a command line come to, whatever the text: which of them is wrong, or what they ask for.
+#![tactic(auto)]
+
 ghost use Rattle.std.specs.Prelude.{◌≡◌};
 ghost use Rattle.command_line.specs.WordRow.{words_in};
 ghost use Rattle.replies.specs.Replies.{help_asked, explanation_asked, reply_asked};

@@ -1,4 +1,6 @@
 // What a text holds once it is read, as counts and rows of numbers, and what a check answers. Reader and checks have these in common.
+#![tactic(auto)]
+
 ghost use Rattle.std.specs.Prelude.{◌≡◌, ◌<◌};
 
 use model::{MAX_EVENTS, MAX_MACHINES, MAX_TRANSITIONS, Refusal};
@@ -10,14 +12,14 @@ pub const UNPLACED: u8 = 255;
 pub const NO_STATE: usize = 256;
 
 // What a check answers.
-#[derive(Drop)]
+#[derive(Clone, Copy)]
 pub enum Verdict {
     Refused(Refusal),
     Passed,
 }
 
 // How many states, events, transitions and machines a text has, and its initial state.
-#[derive(Drop)]
+#[derive(Clone, Copy)]
 pub struct Counts {
     pub states: usize,
     pub initial: usize,

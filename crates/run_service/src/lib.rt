@@ -1,4 +1,6 @@
 // The service Run. It takes any bytes, and its contract is an equation with the model's definition of it.
+#![tactic(auto)]
+
 ghost use Rattle.std.specs.Prelude.{◌≡◌};
 ghost use Rattle.model.specs.Services as Services;
 ghost use Rattle.stages.specs.Stages.{ReadAsFarAs12};

@@ -1,4 +1,6 @@
 // The sheet: its length, and its bytes.
+#![tactic(auto)]
+
 ghost use Rattle.std.specs.Prelude.{◌≡◌, ℕ, ◌+◌, ◌<◌, ◌≤◌, ◌&&◌, ltb, length, take, drop};
 ghost use Rattle.model.specs.Bytes.{digits};
 ghost use Rattle.model.specs.Sheet.{move_bytes};

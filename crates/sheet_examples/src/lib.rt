@@ -1,1 +1,2 @@
 // No code: sheets that boards read and run, computed by the definitions of the model (specs/Examples). Apart from the model, since each of its must-fail edits would compute them again.
+#![tactic(auto)]

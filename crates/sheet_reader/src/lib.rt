@@ -1,4 +1,6 @@
 // Reads a sheet into rows: the names on it, and the moves by event and machine. Document 02, slip 1.
+#![tactic(auto)]
+
 ghost use Rattle.sheet_reader.specs.Lent.{lent_rows};
 ghost use Rattle.sheet_reader.specs.Sheets.{FreshBoard, ReadsSheet};
 

@@ -1,4 +1,6 @@
 // The program: what the words of its command line ask for, on the text, or the sheet, on standard input.
+#![tactic(auto)]
+
 ghost use Rattle.std.specs.Prelude.{◌+◌, ◌≤◌, ◌<◌, ◌≡◌, [], ◌∷◌, ◌++◌, length};
 ghost use Rattle.io.specs.Counts.{IsPrefixLen};
 ghost use Rattle.writers.specs.Written.{Writes};

@@ -1,4 +1,6 @@
 // The services for C and Rust: each answer is flat, a struct of numbers whose unused fields are 0. include/split.h declares them.
+#![tactic(auto)]
+
 ghost use Rattle.std.specs.Prelude.{◌≡◌, map};
 ghost use Rattle.model.specs.Cases.{recorded};
 ghost use Rattle.model.specs.Services as Services;

@@ -1,4 +1,6 @@
 // The services under one name; each stands in the crate that it is taken from.
+#![tactic(auto)]
+
 pub use answers::{Answer, RefusalNumbers, numbers};
 pub use board_service::{board, sheet};
 pub use check_service::check;

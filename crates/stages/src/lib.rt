@@ -1,4 +1,6 @@
 // A text read and checked as far as a row of document 01's table: what a service begins with.
+#![tactic(auto)]
+
 ghost use Rattle.std.specs.Prelude.{◌≡◌};
 ghost use Rattle.rows.specs.Tables.{tables_in};
 ghost use Rattle.reader.specs.Lent.{FreshRows};

@@ -1,4 +1,6 @@
 // Sets of states, one bit for each of 256, and rows of such sets.
+#![tactic(auto)]
+
 ghost use Rattle.std.specs.Prelude.{◌≡◌, not, ◌&&◌, ◌||◌, ℕ, ◌+◌, ◌*◌, ◌<◌, eqb, length};
 ghost use Rattle.std.proofs.Math.Option.{some};
 ghost use Rattle.std.specs.Int.Count.{count_trailing_zeros};
@@ -9,7 +11,7 @@ ghost use Rattle.state_set.specs.Rows.{set_at, member_at, Stored, Inserted, Word
 // A word of the set of all states.
 pub const FULL_WORD: u64 = 0xffff_ffff_ffff_ffff;
 
-#[derive(Drop)]
+#[derive(Clone, Copy)]
 pub struct StateSet {
     pub w0: u64,
     pub w1: u64,

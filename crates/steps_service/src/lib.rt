@@ -1,4 +1,6 @@
 // The service Steps. It takes any bytes, and its contract is an equation with the model's definition of it.
+#![tactic(auto)]
+
 ghost use Rattle.std.specs.Prelude.{◌≡◌, map, length};
 ghost use Rattle.model.specs.Cases.{recorded};
 ghost use Rattle.model.specs.Services as Services;

@@ -1,4 +1,6 @@
 // Bytes, figures and numerals into a lent buffer; the line that tells a refusal.
+#![tactic(auto)]
+
 ghost use Rattle.std.specs.Prelude.{◌≡◌, ◌+◌, ◌-◌, ◌*◌, ◌<◌, ◌≤◌, length};
 ghost use Rattle.model.specs.Refusal.{refuse};
 ghost use Rattle.model.specs.Bytes.{digits, numeral};

@@ -1,0 +1,7 @@
+-- `insert` sets the digit of the state.
+use borrow.Author.Rules.{rules}
+use Rattle.state_set.proofs.Rows.{inserted}
+use Rattle.state_set.proofs.insert.Goals as goal
+
+pub returns : goal.returns
+returns c = inserted _ _ _ (search rules) c.requires
