@@ -46,6 +46,18 @@ class Names:
         for ((old, new), vs), ch in zip(d["loops"], d["changed"]):
             self.loops[norm(old)] = (new, vs, ch)
 
+    def whole(self, p):
+        """The place where the arm that p begins is whole, with its names."""
+        arm = self.place[p]["arms"]
+        going = bool(arm)
+        while going:
+            going = False
+            for q, info in self.place.items():
+                if info["parent"] == p and info["arms"] and info["arms"][0] == arm[0] and info["arms"][1] > arm[1]:
+                    p, arm, going = q, info["arms"], True
+                    break
+        return p
+
     def chain(self, p):
         while p is not None:
             yield p
@@ -58,65 +70,70 @@ class Turn:
         self.crate = crate
         self.notes = []
         self.placefns = {}
+        self.takes = {}
         self.places = set()
         self.own = own  # clause names of the function's own requires
 
     # ---- resolving what an old path says
 
     def resolve(self, env, head, fields):
-        """(kind, value): ('place', P), ('new', (text, callee, k)), ('text', string) or None."""
+        """What an old path says: ('place', P), ('new', ..), ('clauses', (text, names)) or ('text', string); None if its head is no place."""
         v = env.get(head)
-        if v is None:
-            return None
+        return None if v is None else self.project(v, fields)
+
+    def project(self, v, fields):
+        if not fields:
+            return v
+        if v[0] == "place":
+            return self.from_place(v[1], v[2], fields)
         if v[0] == "new":
             return self.in_new(v[1], fields)
-        if v[0] == "alias":
-            return ("text", v[1] + "".join("." + f for f in fields))
-        place = v[1]
-        return self.from_place(place, fields)
+        if v[0] == "clauses":
+            text, names = v[1]
+            k, fields = 0, list(fields)
+            names = list(names)
+            while len(names) > 1 and fields and fields[0] == "1":
+                names, fields = names[1:], fields[1:]
+            if len(names) > 1 and fields and fields[0] == "0":
+                names, fields = names[:1], fields[1:]
+            if len(names) == 1:
+                return ("text", ".".join([text, names[0]] + fields))
+            return ("clauses", (text, names)) if not fields else ("text", ".".join([text] + fields))
+        return ("text", v[1] + "".join("." + f for f in fields))
 
-    def from_place(self, place, fields):
-        start = place
-        at = place
+    def from_place(self, start, at, fields):
         i = 0
         while i < len(fields) and norm(fields[i]) == "before":
-            at = self.n.place[at]["parent"] if at in self.n.place else None
-            if at is None:
-                self.notes.append("before leads out of the function: " + ".".join(fields))
-                return ("text", "c." + ".".join(fields[i:]))
+            up = self.n.place[at]["parent"] if at in self.n.place else None
+            at = up if up is not None else at
             i += 1
         rest = fields[i:]
         if not rest:
-            return ("place", at)
+            return ("place", start, at)
         f, tail = norm(rest[0]), list(rest[1:])
         if f in ("args", "ranges", "lifetimes", "well-formed", "type-inv", "table"):
             return ("text", "c." + ".".join([rest[0]] + tail))
-        if f == "requires":
-            return ("text", "c." + ".".join(["requires"] + self.clause(self.own, tail)))
-        for p in self.n.chain(at):
-            info = self.n.place[p]
-            if info["old_field"] == f:
-                arm = self.in_arm(start, f, tail)
-                if arm:
-                    return ("text", "c." + arm)
-                if tail and norm(tail[0]) == "new" and info["callee"]:
-                    return self.in_new(("c." + info["new_field"] + ".new", info["callee"], 0), tail[1:])
-                if tail and norm(tail[0]) in ("ensures",) and info["clauses"]:
-                    tail = [tail[0]] + self.clause(info["clauses"]["fields"], tail[1:])
-                if tail and norm(tail[0]) in info["subs"]:
-                    tail = [info["subs"][norm(tail[0])]] + tail[1:]
-                return ("text", "c." + ".".join([info["new_field"]] + tail))
-        # an entry of a later arm
+        if f in ("requires", "pre"):
+            return self.project(("clauses", ("c.requires", self.own)), tail) if self.own and len(self.own) > 1 else ("text", "c." + ".".join(["requires"] + tail))
         arm = self.in_arm(start, f, tail)
         if arm:
             return ("text", "c." + arm)
+        # the nearest step of the name: from the place up, then below it as far as where the path began
+        order = list(self.n.chain(at)) + [p for p in self.n.chain(start)][::-1]
+        for p in order:
+            info = self.n.place[p]
+            if info["old_field"] == f:
+                if tail and norm(tail[0]) == "new" and info["callee"]:
+                    return self.in_new(("c." + info["new_field"] + ".new", info["callee"], 0), tail[1:])
+                if tail and norm(tail[0]) == "ensures" and info["clauses"] and len(info["clauses"]["fields"]) > 1:
+                    return self.project(("clauses", ("c." + info["new_field"] + ".ensures", info["clauses"]["fields"])), tail[1:])
+                if tail and norm(tail[0]) == "inv":
+                    tail = ["invariant"] + tail[1:]
+                if tail and norm(tail[0]) in info["subs"]:
+                    tail = [info["subs"][norm(tail[0])]] + tail[1:]
+                return ("text", "c." + ".".join([info["new_field"]] + tail))
         self.notes.append(f"no step {rest[0]} before {start}")
         return ("text", "c." + ".".join(rest))
-
-    def clause(self, names, tail):
-        if names and tail and re.fullmatch(r"\d+", tail[0]) and int(tail[0]) < len(names):
-            return [names[int(tail[0])]] + tail[1:]
-        return tail
 
     def in_arm(self, start, f, tail):
         best = None
@@ -152,90 +169,158 @@ class Turn:
     # ---- text
 
     def place_text(self, at, goal, own_place):
-        if goal is None:
-            if at == own_place:
-                return "c"
-            self.places.update((self.n.place[at]["new"], self.n.place[own_place]["new"]))
-            return f"(goal.at.{self.n.place[own_place]['new']} c).{self.n.place[at]['new']}"
-        if at == own_place:
+        if at == own_place or self.n.whole(at) == own_place:
             return "c"
         self.places.add(self.n.place[at]["new"])
+        if goal is None:
+            goal = self.n.place[own_place]["new"]
+            self.places.add(goal)
         return f"(goal.at.{goal} c).{self.n.place[at]['new']}"
+
+    def parse(self, text, i, env):
+        """A value at i, a path or an application of a function from place to place: (value, end) or None."""
+        if text[i] == "(":
+            j = i + 1
+            while text[j : j + 1] in (" ", "\n"):
+                j += 1
+            got = self.parse(text, j, env) if j < len(text) else None
+            if not got:
+                return None
+            v, j = got
+            while text[j : j + 1] in (" ", "\n"):
+                j += 1
+            if text[j : j + 1] != ")":
+                return None
+            m = re.compile(FIELD + "*").match(text, j + 1)
+            return self.project(v, self.fields(m.group(0))), m.end()
+        m = PATH.match(text, i)
+        if not m or (i and re.match(r"[\w'.\-«]", text[i - 1])):
+            return None
+        head, fs = m.group(1), self.fields(m.group(2))
+        if head in env:
+            return self.resolve(env, head, fs), m.end()
+        if head in self.placefns and not fs:
+            j = m.end()
+            while text[j : j + 1] in (" ", "\n"):
+                j += 1
+            got = self.parse_atom(text, j, env) if j < len(text) else None
+            if got and got[0][0] == "place":
+                return ("place", got[0][1], self.placefns[head]), got[1]
+        return None
+
+    def parse_atom(self, text, i, env):
+        if text[i] == "(":
+            return self.parse(text, i, env)
+        m = PATH.match(text, i)
+        if m and m.group(1) in env:
+            return self.resolve(env, m.group(1), self.fields(m.group(2))), m.end()
+        return None
 
     def term(self, text, env, goal, own_place):
         """Text with its paths turned; a let of a place goes."""
         out = []
         i = 0
         while i < len(text):
-            m = re.compile(r"(?<![\w'.\-])let\s+(" + WORD + r")\s*(:[^=]*?)?=\s*").match(text, i)
-            if m and (i == 0 or not re.match(r"[\w'.\-]", text[i - 1])):
+            at_word = i == 0 or not re.match(r"[\w'.\-«₀-₉]", text[i - 1])
+            m = re.compile(r"let\s+(" + WORD + r")\s*(:[^=]*?)?=\s*").match(text, i) if at_word else None
+            if m:
                 end = self.find_in(text, m.end())
                 if end:
                     rhs = text[m.end() : end[0]].strip()
-                    v = self.pure(rhs, env)
-                    if v and v[0] in ("place", "new"):
-                        env[m.group(1)] = v
+                    got = self.parse(rhs, 0, env) if rhs else None
+                    if got and got[1] == len(rhs) and got[0][0] in ("place", "new", "clauses"):
+                        env[m.group(1)] = got[0]
                         i = end[1]
                         continue
                     inner = self.term(text[m.end() : end[0]], env, goal, own_place)
                     typ = self.term(m.group(2) or "", env, goal, own_place)
                     env.pop(m.group(1), None)
                     out.append(f"let {m.group(1)} {typ}= {inner.strip()} in" if typ else f"let {m.group(1)} = {inner.strip()} in")
-                    i = end[1] - (len(text[end[0] : end[1]]) - len(" in"))
-                    # keep what follows the in
                     i = end[0] + re.match(r"\s*in\b", text[end[0] :]).end()
                     continue
-            m = re.compile(r"\(\s*(" + WORD + r")\s+(" + WORD + r")(" + FIELD + r"*)\s*\)(" + FIELD + r"*)").match(text, i)
-            if m and m.group(1) in self.placefns and (m.group(2) in env):
-                v = self.resolve(env, m.group(2), self.fields(m.group(3)))
-                if v and v[0] == "place":
-                    v = self.from_place(self.placefns[m.group(1)], self.fields(m.group(4)))
-                    out.append(self.show(v, goal, own_place))
-                    i = m.end()
+            m = re.compile(r"λ\s+([^.]*?)\.").match(text, i)
+            if m:
+                # a binder hides a place of its name
+                for v in re.findall(WORD, m.group(1)):
+                    env.pop(v, None)
+            if at_word:
+                m = PATH.match(text, i)
+                if m and not m.group(2) and m.group(1) in self.takes:
+                    out.append(m.group(1))
+                    i = self.arguments(text, m.end(), self.takes[m.group(1)], env, goal, own_place, out)
                     continue
-            m = PATH.match(text, i)
-            if m and (i == 0 or not re.match(r"[\w'.\-«]", text[i - 1])):
-                head, fs = m.group(1), self.fields(m.group(2))
-                if head in self.placefns and not fs:
-                    m2 = re.compile(r"\s+(" + WORD + r")(" + FIELD + r"*)").match(text, m.end())
-                    if m2 and m2.group(1) in env:
-                        v = self.resolve(env, m2.group(1), self.fields(m2.group(2)))
-                        if v and v[0] == "place":
-                            out.append(self.show(("place", self.placefns[head]), goal, own_place))
-                            i = m2.end()
-                            continue
-                v = self.resolve(env, head, fs)
-                if v is None:
-                    out.append(m.group(0))
-                else:
-                    out.append(self.show(v, goal, own_place))
+            got = self.parse(text, i, env) if (text[i] == "(" or at_word) else None
+            if got:
+                out.append(self.show(got[0], goal, own_place))
+                i = got[1]
+                continue
+            m = PATH.match(text, i) if at_word else None
+            if m:
+                out.append(m.group(0))
                 i = m.end()
                 continue
             out.append(text[i])
             i += 1
         return "".join(out)
 
+    def arguments(self, text, i, takes, env, goal, own_place, out):
+        """The arguments of a helper: where it takes a place, the place that it takes."""
+        k = 0
+        while k <= max(takes):
+            j = i
+            while text[j : j + 1] in (" ", "\n"):
+                j += 1
+            if j >= len(text) or not re.match(r"[\w(«{\"]", text[j]) or j == i:
+                return i
+            if re.match(r"(in|let)\b", text[j:]):
+                return i
+            if text[j] == "{":
+                e = self.close(text, j)
+                out.append(text[i:j] + self.term(text[j:e], env, goal, own_place))
+                i = e
+                continue
+            got = self.parse_atom(text, j, env)
+            if k in takes and got and got[0][0] == "place":
+                out.append(text[i:j] + self.show(("place", got[0][1], takes[k]), goal, own_place))
+                i = got[1]
+            else:
+                if text[j] == "(":
+                    e = self.close(text, j)
+                    e = re.compile(FIELD + "*").match(text, e).end()
+                elif text[j] == '"':
+                    e = text.index('"', j + 1) + 1
+                else:
+                    m = PATH.match(text, j) or re.compile(r"\w+").match(text, j)
+                    e = m.end()
+                out.append(text[i:j] + self.term(text[j:e], env, goal, own_place))
+                i = e
+            k += 1
+        return i
+
+    def close(self, text, i):
+        depth = 0
+        for j in range(i, len(text)):
+            if text[j] in "([{":
+                depth += 1
+            elif text[j] in ")]}":
+                depth -= 1
+                if depth == 0:
+                    return j + 1
+        return len(text)
+
     def show(self, v, goal, own_place):
         if v[0] == "text":
             return v[1]
         if v[0] == "place":
-            return self.place_text(v[1], goal, own_place)
+            return self.place_text(v[2], goal, own_place)
+        if v[0] == "clauses":
+            text, names = v[1]
+            return "(" + ", ".join(f"{text}.{n}" for n in names) + ")"
         self.notes.append("all of .new is handed on: " + v[1][0])
         return v[1][0]
 
     def fields(self, s):
         return re.findall(r"\.(«[^»]*»|[A-Za-z0-9_][\w'₀-₉\-]*)", s)
-
-    def pure(self, rhs, env):
-        m = re.fullmatch(r"\(?\s*(" + WORD + r")\s+(" + WORD + r")(" + FIELD + r"*)\s*\)?(" + FIELD + r"*)", rhs)
-        if m and m.group(1) in self.placefns and m.group(2) in env:
-            v = self.resolve(env, m.group(2), self.fields(m.group(3)))
-            if v and v[0] == "place":
-                return self.from_place(self.placefns[m.group(1)], self.fields(m.group(4)))
-        m = re.fullmatch(r"(" + WORD + r")(" + FIELD + r"*)", rhs)
-        if m and m.group(1) in env:
-            return self.resolve(env, m.group(1), self.fields(m.group(2)))
-        return None
 
     def find_in(self, text, start):
         depth = 0
@@ -385,7 +470,7 @@ def top_tuple(text):
             break
         e = Turn.find_in(helper, t, m.end())
         if not e:
-            return None
+            return lead, None, t.strip()
         lead += t[: e[1]]
         t = t[e[1] :]
     t2 = t.strip()
@@ -438,6 +523,20 @@ def turn_file(path, crate, names, src):
         m = re.fullmatch(r"(?:abbrev\s+|pub\s+)*" + re.escape(d["name"]) + r"\s*:\s*tie\.([\w'+\-]+)(?:\s+[\w\-]+)*\s*→\s*tie\.([\w'+\-]+)(?:\s+[\w\-]+)*", sig)
         if m:
             t.placefns[d["name"]] = norm(m.group(2))
+    for d in decls:
+        sig = " ".join(x.strip() for x in d["sig"])
+        if d["name"] in t.placefns or "tie.Need" in sig:
+            continue
+        takes = {}
+        for i, (v, ty) in enumerate(binders(sig)):
+            mm = re.match(r"tie\.([\w'+\-]+)", ty)
+            if mm and norm(mm.group(1)) in t.n.place:
+                takes[i] = t.n.whole(norm(mm.group(1)))
+        plain = re.search(r"^[^:]*:\s*tie\.([\w'+\-]+)(?:\s+[\w\-]+)*\s*→", sig)
+        if plain and norm(plain.group(1)) in t.n.place:
+            takes[0] = t.n.whole(norm(plain.group(1)))
+        if takes:
+            t.takes[d["name"]] = takes
     dropped = []
     for d in decls:
         name = d["name"]
@@ -457,9 +556,11 @@ def turn_file(path, crate, names, src):
             (args, body), *_ = clauses_of(d)
             args = split_args(args)
             want = ["l.initial." + v if c else "l." + v for v, c in zip(vs, ch)] + ["l." + v for v, c in zip(vs, ch) if c]
-            if len(args) != len(want):
-                t.notes.append(f"{name}: {len(args)} arguments for {len(want)}: {args} {want}")
             sub = dict(zip(args, want))
+            if len(args) != len(want):
+                sub = {a: "l.initial." + a[:-1] if a.endswith("₀") else "l." + a for a in args if a != "_" and a.rstrip("₀") in vs}
+                if not all(a in sub or not re.search(r"(?<![\w'.])" + re.escape(a) + r"(?![\w'₀])", body) for a in args if a != "_"):
+                    t.notes.append(f"{name}: {len(args)} arguments for {len(want)}: {args} {want}")
 
             def put(mm, sub=sub):
                 h = mm.group(1)
@@ -486,19 +587,33 @@ def turn_file(path, crate, names, src):
             al = split_args(args)
             c = al[0] if al else "c"
             more = "".join(" " + a for a in al[1:] if a != "κs" and not new.split("-clause")[0].rstrip("0123456789").rstrip("-").endswith("requires") or a not in ("κs", "_") and len(al) > 2)
-            env = {c: ("place", place)}
+            env = {c: ("place", place, place)}
             body = t.term(body, env, new, place).rstrip()
             if re.fullmatch(r"\s*search rules", body) and not d["unfolding"]:
                 continue
             if asked and len(asked) > 1:
-                got = top_tuple(body)
-                if got:
-                    lead, parts, rest = got
-                    if parts and len(parts) == len(asked):
-                        body = f"\n    {lead.strip()}\n    record {{ " if lead.strip() else " record { "
-                        body += " ".join(f"{a} = {p};" for a, p in zip(asked, parts)) + " }"
+                lead, parts, rest = top_tuple(body)
+                while parts and len(parts) == 2 and len(parts) < len(asked):
+                    inner = top_tuple(parts[-1])
+                    if not inner or not inner[1]:
+                        break
+                    parts = parts[:-1] + inner[1]
+                    if len(parts) >= len(asked):
+                        break
+                while parts and 2 < len(parts) < len(asked):
+                    inner = top_tuple(parts[-1])
+                    if not inner or not inner[1]:
+                        break
+                    parts = parts[:-1] + inner[1]
+                if not parts or len(parts) != len(asked):
+                    n_ = len(asked)
+                    parts = ["all" + ".1" * i + (".0" if i < n_ - 1 else "") for i in range(n_)]
+                    if rest.startswith("search") or rest.startswith("simp") or rest.startswith("rw ") or rest.startswith("omega"):
+                        parts = [rest] * n_
                     else:
-                        body = (f"\n    {lead.strip()}\n    record {{ " if lead.strip() else " record { ") + " ".join(f"{a} = ({rest}).{i};" for i, a in enumerate(asked)) + " }"
+                        lead = (lead.strip() + f"\n    let all = {rest} in").strip()
+                body = f"\n    {lead.strip()}\n    record {{ " if lead.strip() else " record { "
+                body += " ".join(f"{a} = {p};" for a, p in zip(asked, parts)) + " }"
             ans.append(d["comments"] + [f"pub {new} : goal.{new}"] + d["unfolding"] + [f"{new} c{more} ={body}"])
             continue
         # a helper
@@ -509,18 +624,20 @@ def turn_file(path, crate, names, src):
         for i, (v, ty) in enumerate(bs):
             mm = re.match(r"tie\.([\w'+\-]+)", ty)
             if mm and norm(mm.group(1)) in t.n.place:
-                env_sig[v] = ("place", norm(mm.group(1)))
-                args_env[i] = norm(mm.group(1))
-                own_place = own_place or norm(mm.group(1))
+                at_whole, said = t.n.whole(norm(mm.group(1))), norm(mm.group(1))
+                env_sig[v] = ("place", at_whole, said)
+                args_env[i] = (at_whole, said)
+                own_place = own_place or at_whole
         sig2 = sig[: sig.index(":")] + ":" + t.term(sig[sig.index(":") + 1 :], dict(env_sig), None, own_place)
         plain = re.search(r":\s*tie\.([\w'+\-]+)(?:\s+[\w\-]+)*\s*→", flat)
         if not bs and plain and norm(plain.group(1)) in t.n.place:
-            own_place = norm(plain.group(1))
-            args_env[0] = own_place
+            own_place = t.n.whole(norm(plain.group(1)))
+            args_env[0] = (own_place, norm(plain.group(1)))
 
         def place_type(mm):
             k = norm(mm.group(1))
             if k in t.n.place:
+                k = t.n.whole(k)
                 t.places.add(t.n.place[k]["new"])
                 return t.n.place[k]["new"]
             t.notes.append(f"type tie.{mm.group(1)}")
@@ -535,18 +652,47 @@ def turn_file(path, crate, names, src):
             env = {}
             for i, p in args_env.items():
                 if i < len(al):
-                    env[al[i]] = ("place", p)
+                    env[al[i]] = ("place", *p)
                     if al[i] != "c":
                         t.notes.append(f"{name}: its place is called {al[i]}")
             out.append(f"{name} {args} ={t.term(body, env, None, own_place).rstrip()}" if args else f"{name} ={body.rstrip()}")
         ans.append(out)
+    shared = []
+    if inv:
+        text_of = {x["name"]: x for x in decls}
+        def words(s):
+            return set(re.findall(WORD, s))
+        need, todo = [], words("\n".join("\n".join(b) for b in inv))
+        for x in decls:
+            flat = " ".join(x["sig"])
+            if "tie." in flat or x["name"].endswith("-spec"):
+                continue
+            if x["name"] in todo:
+                need.append(x["name"])
+        grow = True
+        while grow:
+            grow = False
+            for nme in list(need):
+                for x in decls:
+                    if x["name"] not in need and "tie." not in " ".join(x["sig"]) and x["name"] in words("\n".join(text_of[nme]["sig"] + text_of[nme]["body"])):
+                        need.append(x["name"]); grow = True
+        moved = []
+        for x in decls:
+            if x["name"] in need:
+                sig = x["sig"][0]
+                if not re.match(r"(abbrev |unfoldable )?pub ", sig):
+                    sig = re.sub(r"^(abbrev |unfoldable )?", lambda m: (m.group(1) or "") + "pub ", sig, count=1)
+                moved.append(x["comments"] + [sig] + x["sig"][1:] + x["unfolding"] + x["body"])
+                shared.append(x["name"])
+        inv = moved + inv
+        ans = [b for b in ans if not any(re.match(r"(?:(?:pub|abbrev|unfoldable)\s+)*" + re.escape(s) + r"\s*:", l) for s in shared for l in b)]
     d = os.path.dirname(path)
     keep_uses = [u for u in uses if ".Statement" not in u and ".Tie" not in u]
     base = f"Rattle.{crate}.proofs.{mod}"
     if inv:
         open(d + "/Invariants.antt", "w").write("\n".join(head + [u for u in keep_uses] + [f"use {base}.Given as goal", ""] + ["\n".join(b) + "\n" for b in inv]).rstrip() + "\n")
     if ans:
-        ans_text = "\n".join(head + keep_uses + ([f"use {base}.Goals.{{{', '.join(sorted(t.places))}}}"] if t.places else []) + [f"use {base}.Goals as goal", ""] + ["\n".join(b) + "\n" for b in ans]).rstrip() + "\n"
+        ans_text = "\n".join(head + keep_uses + ([f"use {base}.Invariants.{{{', '.join(shared)}}}"] if shared else []) + ([f"use {base}.Goals.{{{', '.join(sorted(t.places))}}}"] if t.places else []) + [f"use {base}.Goals as goal", ""] + ["\n".join(b) + "\n" for b in ans]).rstrip() + "\n"
         open(d + "/Answers.antt", "w").write(ans_text)
     os.remove(path)
     for x in t.notes:

@@ -64,6 +64,7 @@ map_take {B = B} g (suc k) (x ∷ l) = ap (λ (r : List B). g x ∷ r) (map_take
 
 -- the bytes of a text
 each_byte : (s : List ℕ) → ((i : ℕ) → get_or s i 0 < 256) → EachByte s
+each_byte [] h b x'' = elim x'' [ ]
 each_byte (a ∷ s) h b (Memᴰ.head e) = omega (arith, h 0)
 each_byte (a ∷ s) h b (Memᴰ.tail m) = each_byte s (λ i. h (suc i)) b m
 

@@ -1,0 +1,25 @@
+-- `lines::mark_states` meets its contract: a loop over spaced figures, each of which is marked.
+use Prim.Native.Nat.{ℕ, ◌-◌}
+use native.Mathlib.Omega.{arith}
+use mathlib.Core.Path.{◌≡◌, ap}
+use mathlib.Core.List.{List}
+use borrow.Author.Rules.{rules}
+use lib.ListN.{length}
+use Rattle.model.specs.Reading.{got, many}
+use Rattle.model.specs.Form.{spaced_figure}
+use Rattle.lexer.proofs.Answers.{figure_missing, figure_got}
+use Rattle.lexer.proofs.Loops.{Items, items_none, items_more, items_end}
+use Rattle.lexer.proofs.Moves.{moves_spaced_figure}
+use Rattle.lines.specs.Marking.{Marking, marking, marked_all}
+use Rattle.lines.proofs.marks.mark_states.Given as goal
+
+-- the marking and the position after the figures
+abbrev pub end : ℕ → ℕ → Marking → List ℕ × ℕ → Marking × ℕ
+end n p m r = (marked_all n p m r.0, r.1)
+
+abbrev pub invariant-loop-value : goal.invariant-loop-value
+invariant-loop-value l =
+    Items spaced_figure (end l.n l.p) l.s (end l.n l.p (marking l.initial.marks l.initial.row) (many spaced_figure l.s l.at)) (marking l.marks l.row) l.i
+
+abbrev pub decreases-loop-value : goal.decreases-loop-value
+decreases-loop-value l = length l.s - l.i
