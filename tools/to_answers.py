@@ -129,6 +129,8 @@ class Turn:
                     return self.project(("clauses", ("c." + info["new_field"] + ".ensures", info["clauses"]["fields"])), tail[1:])
                 if tail and norm(tail[0]) == "inv":
                     tail = ["invariant"] + tail[1:]
+                if tail and tail[0] in ("taken", "left") and tail[0] not in info["subs"]:
+                    tail = [{"taken": "true", "left": "false"}[tail[0]]] + tail[1:]
                 if tail and norm(tail[0]) in info["subs"]:
                     tail = [info["subs"][norm(tail[0])]] + tail[1:]
                 return ("text", "c." + ".".join([info["new_field"]] + tail))
@@ -493,7 +495,8 @@ def top_tuple(text):
             cur = ""
         else:
             cur += ch
-    parts.append(cur.strip())
+    if cur.strip():
+        parts.append(cur.strip())
     return lead, parts, t2
 
 

@@ -1,7 +1,7 @@
 -- How a machine's row is filled, state by state, and what it then tells: of each state its place, and the lowest state that is listed twice.
 use Prim.Native.Nat.{ℕ, suc, ◌+◌, ◌<◌, ◌≤◌}
 use native.Mathlib.Omega.{arith}
-use mathlib.Core.Path.{◌≡◌, refl, ap, sym, ◌∙◌}
+use mathlib.Core.Path.{◌≡◌, refl, ap, subst, sym, ◌∙◌}
 use mathlib.Core.Logic.{◌⊎◌, inl, inr}
 use mathlib.Core.Bool.{Bool, true, false, cond, ◌&&◌, ◌||◌}
 use mathlib.Core.List.{List, [], ◌∷◌, ◌++◌, flatten}
@@ -57,7 +57,9 @@ module _ (row : List ℕ) (p x : ℕ) (h : x < length row) (f : get_or row x 0 �
   fresh_count : (l : List ℕ) → times (set row x p) l y ≡ times row (x ∷ l) y
   unfolding count
   fresh_count l =
-      eqb_case x y (λ e b. rw (b, e, get_or-set_same row x p 0 h, f, ne_eqb p 255 q) (omega arith)) (λ e b. rw (b, get_or-set_other row x y p 0 e))
+      eqb_case x y
+      (λ e b. subst (λ z. times (set row x p) l z ≡ times row (x ∷ l) z) (sym e) (rw (get_or-set_same row x p 0 h, f, ne_eqb p 255 q, eq-eqb x x refl) (omega arith)))
+      (λ e b. rw (b, get_or-set_other row x y p 0 e))
 
 -- a state x whose entry is taken leaves it
 module _ (row : List ℕ) (p x : ℕ) (f : get_or row x 0 ≡ 255 → ⊥) (y : ℕ) where

@@ -8,12 +8,12 @@ use lib.ListN.{length}
 use Rattle.model.specs.Form.{spaced_name}
 use Rattle.lexer.proofs.Answers.{name_missing, GotName, name_got}
 use Rattle.lines.proofs.Events.{filling, Naming, names_start, name_reach, names_more, names_past, names_end}
-use Rattle.lines.proofs.read_names.Goals.{In-Found}
+use Rattle.lines.proofs.read_names.Goals.{In-Found, then-k-lt-MAX_EVENTS, else-k-lt-MAX_EVENTS}
 use Rattle.lines.proofs.read_names.Goals as goal
 
 -- the name that a turn reads
 abbrev read : (c : In-Found) → ℕ × ℕ × ℕ × ℕ
-read c = let g = c.n-1.given.0 in (g.0, g.1.0, g.1.1.0, g.1.1.1.0)
+read c = (c.in-Found.n, c.in-Found.h, c.in-Found.l, c.in-Found.next)
 
 item : (c : In-Found)
     → GotName (spaced_name c.args.s.now c.loop-n.i) (read c).0 (read c).1 (read c).2 (read c).3
@@ -63,5 +63,8 @@ loop-n-smaller c = omega (arith, name_reach c.loop-n.invariant (item (goal.at.lo
 pub loop-n-preserved : goal.loop-n-preserved
 loop-n-preserved c =
     let inv = c.loop-n.invariant in
-    ⊎_elim (λ w. rw (w.1, w.2, w.3, w.4) (names_more inv (item (goal.at.loop-n-preserved c).In-Found))) (λ w. rw (w.1, w.2, w.3, w.4) (names_past inv (item (goal.at.loop-n-preserved c).In-Found) w.0.left))
-    c.if-k-lt-MAX_EVENTS.branch
+    elim c.if-k-lt-MAX_EVENTS.branch [
+      then-k-lt-MAX_EVENTS w ↦ rw (w.spot-is, w.len-is, w.high-is, w.low-is) (names_more inv (item (goal.at.loop-n-preserved c).In-Found))
+    | else-k-lt-MAX_EVENTS w ↦
+        rw (w.spot-is, w.len-is, w.high-is, w.low-is) (names_past inv (item (goal.at.loop-n-preserved c).In-Found) w.if-k-lt-MAX_EVENTS.false)
+    ]

@@ -14,12 +14,12 @@ add_transition-verdict-requires c = record { in_rows = in_rows c.loop-k.invarian
 
 pub returns-in-Refused : goal.returns-in-Refused
 returns-in-Refused c =
-    let all = scan_stop c.loop-k.invariant c.loop-k-test.taken c.in-Refused.is c.add_transition-verdict.ensures.result_value in
+    let all = scan_stop c.loop-k.invariant c.loop-k-test.true c.in-Refused.is c.add_transition-verdict.ensures.result_value in
     record { result_value = all.0; sets_of_2 = all.1; }
 
 pub loop-k-preserved : goal.loop-k-preserved
 loop-k-preserved c =
-    scan_more c.loop-k.invariant c.loop-k-test.taken c.in_default.is c.add_transition-verdict.ensures.result_value
+    scan_more c.loop-k.invariant c.loop-k-test.true c.in_default.is c.add_transition-verdict.ensures.result_value
     c.add_transition-verdict.ensures.sets_of_2 (search rules)
 
 pub returns : goal.returns

@@ -9,18 +9,17 @@ add_transitions-forks-requires c =
     let (b, e) = c.requires.bounded in
     let l = c.requires.transitions_in_bounds in
     let (f, w) = c.requires.successors in
-    let all = (
-      λ k h. record {
+    record {
+      by_index = λ k h. record {
         low = omega (arith, b.transitions);
         sources = omega (arith, l.0);
         events = omega (arith, l.1);
         targets = omega (arith, l.2);
         label = omega (arith, b.event k h, b.events);
         from = omega (arith, b.source k h, w);
-      },
-      record { excitations = e; follows = f },
-    ) in
-    record { by_index = all.0; sets_of = all.1; }
+      };
+      sets_of = record { excitations = e; follows = f };
+    }
 
 pub returns-in-Refused : goal.returns-in-Refused
 returns-in-Refused c =

@@ -1,9 +1,9 @@
 -- `transition_system::first_leading` meets its contract: the transitions passed lead elsewhere. The laws are in `Leading`.
 use Prim.Native.Nat.{◌-◌}
 use native.Mathlib.Omega.{arith}
-use mathlib.Core.Logic.{⊎_elim}
 use Rattle.rows.proofs.Searches.{Upto, upto_start, upto_more}
 use Rattle.transition_system.proofs.Leading.{LeadsAt, leading}
+use Rattle.transition_system.proofs.first_leading.Goals.{then-source-k+else-event-k, else-source-k}
 use Rattle.transition_system.proofs.first_leading.Goals as goal
 
 pub loop-k-init : goal.loop-k-init
@@ -29,7 +29,7 @@ loop-k-smaller c = omega arith
 pub loop-k-preserved : goal.loop-k-preserved
 loop-k-preserved c =
     upto_more c.loop-k.invariant c.loop-k-test.true
-    (⊎_elim (λ w h. w.2.left h.label) (λ w h. w.left h.from) c.if-source-k.branch)
+    (λ h. elim c.if-source-k.branch [ then-source-k+else-event-k w ↦ w.if-event-k.false h.label | else-source-k w ↦ w.if-source-k.false h.from ])
 
 pub returns : goal.returns
 returns c = let p = c.loop-k.invariant in (λ targets. leading targets p (λ l. absurd (omega arith)), p.most)
