@@ -1,0 +1,12 @@
+-- `quick_move::read_move_quickly` meets its contract: a text too short says nothing.
+use borrow.Author.Rules.{rules}
+use Rattle.quick_move.specs.Quick.{ReadsQuickly}
+use Rattle.quick_move.proofs.read_move_quickly.Goals as goal
+
+pub returns-then-s-lt40 : goal.returns-then-s-lt40
+unfolding ReadsQuickly
+returns-then-s-lt40 c = tt
+
+pub returns-then-s-at : goal.returns-then-s-at
+unfolding ReadsQuickly
+returns-then-s-at c = tt
