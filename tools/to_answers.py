@@ -20,7 +20,7 @@ PATH = re.compile(r"(?<![\w'.\-«])(" + WORD + r")(" + FIELD + r"*)")
 def norm(name):
     name = name.strip("«»")
     name = re.sub(r"_lem$", "", name)
-    return name.replace("_", "-")
+    return name.replace("_", "-").lower()
 
 
 class Names:
@@ -88,6 +88,16 @@ class Turn:
             return self.from_place(v[1], v[2], fields)
         if v[0] == "new":
             return self.in_new(v[1], fields)
+        if v[0] == "arm":
+            start, f, tail = v[1]
+            tail = tail + list(fields)
+            arm = self.in_arm(start, f, tail)
+            if arm:
+                return ("text", "c." + arm)
+            if self.begins_arm(start, f, tail):
+                return ("arm", (start, f, tail))
+            self.notes.append(f"no part of the arm: {f} {tail}")
+            return ("text", "c." + ".".join([f] + tail))
         if v[0] == "clauses":
             text, names = v[1]
             k, fields = 0, list(fields)
@@ -118,6 +128,8 @@ class Turn:
         arm = self.in_arm(start, f, tail)
         if arm:
             return ("text", "c." + arm)
+        if self.begins_arm(start, f, tail):
+            return ("arm", (start, f, tail))
         # the nearest step of the name: from the place up, then below it as far as where the path began
         order = list(self.n.chain(at)) + [p for p in self.n.chain(start)][::-1]
         for p in order:
@@ -136,6 +148,14 @@ class Turn:
                 return ("text", "c." + ".".join([info["new_field"]] + tail))
         self.notes.append(f"no step {rest[0]} before {start}")
         return ("text", "c." + ".".join(rest))
+
+    def begins_arm(self, start, f, tail):
+        for p in self.n.chain(start):
+            arms = self.n.place[p]["arms"]
+            for new, old, path in arms[2] if arms else []:
+                if norm(old) == f and len(tail) and len(tail) < len(path) and [norm(x) for x in path[: len(tail)]] == [norm(x) for x in tail]:
+                    return True
+        return False
 
     def in_arm(self, start, f, tail):
         best = None
@@ -230,7 +250,7 @@ class Turn:
                 if end:
                     rhs = text[m.end() : end[0]].strip()
                     got = self.parse(rhs, 0, env) if rhs else None
-                    if got and got[1] == len(rhs) and got[0][0] in ("place", "new", "clauses"):
+                    if got and got[1] == len(rhs) and got[0][0] in ("place", "new", "clauses", "arm"):
                         env[m.group(1)] = got[0]
                         i = end[1]
                         continue
@@ -318,6 +338,9 @@ class Turn:
         if v[0] == "clauses":
             text, names = v[1]
             return "(" + ", ".join(f"{text}.{n}" for n in names) + ")"
+        if v[0] == "arm":
+            self.notes.append(f"all of an arm is handed on: {v[1]}")
+            return "c." + ".".join([v[1][1]] + v[1][2])
         self.notes.append("all of .new is handed on: " + v[1][0])
         return v[1][0]
 
@@ -518,6 +541,10 @@ def turn_file(path, crate, names, src):
     n = Names(names[key])
     fn = rel.split("/")[-1]
     t = Turn(crate, rel, n, own_requires(crate, fn, src))
+    # a name for the type of a place
+    for m in list(re.finditer(r"(?m)^abbrev (\w[\w-]*) : Type 0\n\1 = (tie\.[\w'+\-]+)((?:\s+(?:invariant|decreases)-[\w\-]+)*)\n", text)):
+        text = text.replace(m.group(0), "")
+        text = re.sub(r"(?<![\w'.\-])" + re.escape(m.group(1)) + r"(?![\w'\-])", m.group(2) + m.group(3), text)
     head, uses, decls, tail = blocks(text)
     inv, ans, helpers_used = [], [], []
     # place functions first
