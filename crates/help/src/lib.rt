@@ -4,16 +4,18 @@
 ghost use Rattle.std.specs.Prelude.{◌≤◌, length};
 
 pub use explanations::put_explanation;
-use libc::{STDERR_FILENO, STDOUT_FILENO};
+use std::io::Print;
 
 mod explanations; // what each refusal means, and what to do about it
 
-fn put_error(words: &[u8]) {
-    io::write_all(STDERR_FILENO, words);
+// What is not taken is not written: no answer hangs on it.
+fn put(out: &impl Print, words: &[u8]) {
+    let _ = out.write_all(words);
 }
 
-fn put_usage() {
-    put_error(
+fn put_usage(out: &impl Print) {
+    put(
+        out,
         b"; usage: ./split [check [LENT] | steps [LENT] | name EVENT | run [EVENT..] | thin | merge [LENT] | quote [LENT] | sheet [LENT] | board [NAME..] | help [text] | explain REFUSAL [A [B]]] < TEXT or SHEET, or FILE\n",
     );
 }
@@ -33,37 +35,37 @@ fn is_plain(word: &[u8]) -> bool {
     (1 <= i) & (i <= 40)
 }
 
-fn put_number(number: usize) {
-    put_error(b"split: word ");
-    io::print_decimal(STDERR_FILENO, number as u64);
+fn put_number(out: &impl Print, number: usize) {
+    put(out, b"split: word ");
+    let _ = out.print(number);
 }
 
 // One line, to standard error, and nothing is answered: a word is wrong, one is missing, or the words are too long to be read.
-pub fn put_wrong(number: usize, word: &[u8]) {
-    put_number(number);
-    put_error(b" is wrong");
+pub fn put_wrong(out: &impl Print, number: usize, word: &[u8]) {
+    put_number(out, number);
+    put(out, b" is wrong");
     if is_plain(word) {
-        put_error(b": ");
-        put_error(word);
+        put(out, b": ");
+        put(out, word);
     }
-    put_usage();
+    put_usage(out);
 }
 
-pub fn put_missing(number: usize) {
-    put_number(number);
-    put_error(b" is missing");
-    put_usage();
+pub fn put_missing(out: &impl Print, number: usize) {
+    put_number(out, number);
+    put(out, b" is missing");
+    put_usage(out);
 }
 
-pub fn put_too_long() {
-    put_error(b"split: the words are too long to be read");
-    put_usage();
+pub fn put_too_long(out: &impl Print) {
+    put(out, b"split: the words are too long to be read");
+    put_usage(out);
 }
 
 // The services and the refusals, in a screen.
-pub fn put_help() {
-    io::write_all(
-        STDOUT_FILENO,
+pub fn put_help(out: &impl Print) {
+    put(
+        out,
         b"Reads a plan and its split, or a sheet, and answers for one service:\n\
           \x20 ./split check [LENT]   the boards' sheet, in LENT bytes (32768); also ./split\n\
           \x20 ./split steps [LENT]   the plan's steps by number, in LENT records (1024)\n\
@@ -92,9 +94,9 @@ pub fn put_help() {
 }
 
 // How a text is written, in a screen.
-pub fn put_text_form() {
-    io::write_all(
-        STDOUT_FILENO,
+pub fn put_text_form(out: &impl Print) {
+    put(
+        out,
         b"A text is a plan and its split, in lines of this order:\n\
           \n\
           \x20 (states 4)                 how many states: 0 to 3, and 0 is the start, unless\n\
@@ -120,11 +122,11 @@ pub fn put_text_form() {
 }
 
 // A detail, or the letter that stands for it.
-fn put_detail(detail: &[u8], letter: &[u8]) {
+fn put_detail(out: &impl Print, detail: &[u8], letter: &[u8]) {
     if detail.len() > 0 {
-        io::write_all(STDOUT_FILENO, detail);
+        put(out, detail);
     } else {
-        io::write_all(STDOUT_FILENO, letter);
+        put(out, letter);
     }
 }
 
@@ -147,16 +149,16 @@ fn detail_at(text: &[u8], from: usize) -> usize
 }
 
 // A text with the first detail for each % and the second for each #.
-fn put_filled(text: &[u8], first: &[u8], second: &[u8]) {
+fn put_filled(out: &impl Print, text: &[u8], first: &[u8], second: &[u8]) {
     let mut from = 0;
     while from < text.len() {
         let at = detail_at(text, from);
-        io::write_all(STDOUT_FILENO, &text[from..at]);
+        put(out, &text[from..at]);
         if at < text.len() {
             if text[at] == b'%' {
-                put_detail(first, b"A");
+                put_detail(out, first, b"A");
             } else {
-                put_detail(second, b"B");
+                put_detail(out, second, b"B");
             }
         }
         from = at + 1;
