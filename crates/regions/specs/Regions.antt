@@ -1,5 +1,5 @@
 -- What checking 8 to 10 answers. It reads the counts and five rows of the tables.
-use Rattle.std.specs.Prelude.{ℕ, ◌≡◌, Bool, true, List, [], length}
+use Rattle.std.specs.Prelude.{ℕ, ◌≡◌, Bool, true, List, []}
 use Rattle.std.proofs.Math.Option.{none}
 use Rattle.model.specs.TransitionSystem.{unused_event}
 use Rattle.model.specs.Machine.{Decomposition, machines_refusal}
