@@ -1,0 +1,16 @@
+-- `board_service::running::run_names` meets its contract: the loop keeps `Going`.
+use Prim.Native.Nat.{◌-◌}
+use native.Mathlib.Omega.{arith}
+use borrow.Author.Rules.{rules}
+use borrow.Author.Tests.{not-true, not-false}
+use lib.ListN.{length}
+use Rattle.sheet_reader.specs.Lent.{lent_rows}
+use Rattle.product.proofs.Moving.{lane_end, lane_stops, lane_blocked}
+use Rattle.board_service.proofs.Going.{Going, going_start, going_odd, going_end, going_low, going_on, going_more, going_blocked}
+use Rattle.board_service.proofs.running.run_names.Given as goal
+
+abbrev pub invariant-loop-i : goal.invariant-loop-i
+invariant-loop-i l = Going l.names l.machines l.count (lent_rows l.len l.high l.low l.pre l.post) l.initial.places l.places l.ran l.i
+
+abbrev pub decreases-loop-i : goal.decreases-loop-i
+decreases-loop-i l = length l.names - l.i
