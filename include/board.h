@@ -6,8 +6,8 @@
  * To link, on x86-64 Linux (with -Wl,--gc-sections what is not called is left out), alone or beside
  * the library of split.h:
  *
- *     rt staticlib board_c                                  writes target/staticlib/libboard_c.a
- *     cc -I include program.c target/staticlib/libboard_c.a
+ *     (cd crates/board_c && rt lib)                            writes crates/board_c/out/libboard_c.a
+ *     cc -I include program.c crates/board_c/out/libboard_c.a
  *
  * What it needs: memcpy and memset, and nothing else. With these two given it links under
  * -ffreestanding -nostdlib. It has no data and no bss, takes no heap and makes no system call. It

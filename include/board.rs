@@ -4,7 +4,7 @@
 //!     #[path = "include/board.rs"]
 //!     mod board;
 //!
-//!     rustc -L target/staticlib -l static=board_c program.rs
+//!     rustc -L crates/board_c/out -l static=board_c program.rs
 //!
 //! It uses `core` alone, in any edition, from rustc 1.82 on. board.h says what each field means and
 //! what the library needs; `Run` is its `board_run_answer`. No compiler holds these declarations to

@@ -4,8 +4,8 @@
  *
  * To link, on x86-64 Linux (with -Wl,--gc-sections what is not called is left out):
  *
- *     rt staticlib split_c                                  writes target/staticlib/libsplit_c.a
- *     cc -I include program.c target/staticlib/libsplit_c.a
+ *     (cd crates/split_c && rt lib)                            writes crates/split_c/out/libsplit_c.a
+ *     cc -I include program.c crates/split_c/out/libsplit_c.a
  *
  * What it needs: memcpy and memset, and nothing else. With these two given it links under
  * -ffreestanding -nostdlib. It has no data and no bss, takes no heap and makes no system call. It

@@ -4,7 +4,7 @@
 //!     #[path = "include/split.rs"]
 //!     mod split;
 //!
-//!     rustc -L target/staticlib -l static=split_c program.rs
+//!     rustc -L crates/split_c/out -l static=split_c program.rs
 //!
 //! It uses `core` alone, in any edition, from rustc 1.82 on. split.h says what each field means and
 //! what the library needs; `Name` is its `split_part`, `Run` its `split_run_answer`. No compiler
