@@ -4,10 +4,10 @@
 use Prim.Native.Nat.{ℕ}
 use mathlib.Core.List.{List, [], ◌∷◌}
 use seplogic.Ra.Ura.{Ura}
-use seplogic.Ra.TreeShare.{full_share}
+use base.Fraction.{full_share}
 use lib.Dec.{T}
 use lib.ListN.{length}
-use mir.Syntax.{Ty, Body, Home, Local, local}
+use mir.Syntax.{Ty, Kind, Body, Home, Local, local}
 use mir.Val.{Val, has_ty, WT}
 use base.Logic.{SProp, ent, sep, emp, wand, via, comm∗, assoc∗, assoc', mono_r, emp∗, wand_i, all_i, guard_i, snd∗}
 use base.Fml.{fat, froom, fdies}
@@ -99,11 +99,11 @@ module _ {M : Type 1} {𝓤 : Ura M} (𝓛 : Logic 𝓤) where
   listed (local τ h ∷ ls) bs [] P = one (H.room τ bs.0 0) (‵ (fdies τ bs.0)) (Stored ls bs.1 []) (at_start ls bs.1 [] P) P (listed ls bs.1 [] P)
   listed (local τ h ∷ ls) bs (v ∷ vs) P = one (H.at full_share τ bs.0 0 v) (‵ (fdies τ bs.0)) (Stored ls bs.1 vs) (at_start ls bs.1 vs P) P (listed ls bs.1 vs P)
 
-  pub starts : (τ : Ty) (h : Home) (ls : List Local) (vs : List Val) (lives : ℕ) (b : Body) (C : Calls 𝓤 H) (Λ : Loops 𝓤 H) (P : Pr) (Post : Val → Pr) → Typed ls vs
+  pub starts : (τ : Ty) (h : Home) (ls : List Local) (vs : List Val) (lives : ℕ) (kinds : List Kind) (givens : ℕ) (b : Body) (C : Calls 𝓤 H) (Λ : Loops 𝓤 H) (P : Pr) (Post : Val → Pr) → Typed ls vs
       → ((bs : Addresses (local τ h ∷ ls)) → ent 𝓤 (⋆ 𝓛 (‵ (froom τ bs.0 0) ∷ ‵ (fdies τ bs.0) ∷ at_start ls bs.1 vs P)) (Wp 𝓤 H C Λ (locals (local τ h ∷ ls) bs) b (at_return 𝓤 H (locals (local τ h ∷ ls) bs) Post)))
-      → ent 𝓤 P (WpFn 𝓤 H C Λ (record { lifetimes = lives; outlives = []; params = length vs; locals = local τ h ∷ ls; body = b }) vs Post)
+      → ent 𝓤 P (WpFn 𝓤 H C Λ (record { lifetimes = lives; outlives = []; ty_params = kinds; givens = givens; params = length vs; locals = local τ h ∷ ls; body = b }) vs Post)
   unfolding WpFn
-  starts τ h ls vs lives b C Λ P Post t then =
+  starts τ h ls vs lives kinds givens b C Λ P Post t then =
       allocates (local τ h ∷ ls) P (λ E. params 𝓤 H E vs (Wp 𝓤 H C Λ E b (at_return 𝓤 H E Post))) (λ bs.
       let RD : Pr = H.room τ bs.0 0 ∗ H.dies τ bs.0 in
       let S : Pr = Stored ls bs.1 vs in
