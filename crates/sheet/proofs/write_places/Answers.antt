@@ -1,0 +1,52 @@
+-- `sheet::write_places` meets its contract: five words, one after another.
+use native.Mathlib.Omega.{arith}
+use Rattle.writers.proofs.Writing.{writes_append}
+use Rattle.writers.proofs.Figures.{length_same, writes_same}
+use Rattle.sheet.specs.Written.{places_bytes}
+use Rattle.sheet.proofs.Parts.{length_places}
+use Rattle.sheet.proofs.write_places.Goals as goal
+
+pub write_bytes-a-requires : goal.write_bytes-a-requires
+write_bytes-a-requires c =
+    let a = c.args in
+    omega (arith, length_places a.pre a.post)
+
+pub write_figure-b-requires : goal.write_figure-b-requires
+write_figure-b-requires c =
+    let a = c.args in
+    (omega arith, omega (arith, length_places a.pre a.post, length_same c.wide.ensures.0))
+
+pub write_bytes-c-requires : goal.write_bytes-c-requires
+write_bytes-c-requires c =
+    let a = c.args in
+    omega (arith, length_places a.pre a.post, length_same c.wide.ensures.0)
+
+pub write_figure-d-requires : goal.write_figure-d-requires
+write_figure-d-requires c =
+    let a = c.args in (
+      omega arith,
+      omega (
+        arith,
+        length_places a.pre a.post,
+        length_same c.wide.ensures.0,
+        length_same c.wide-2.ensures.0,
+      ),
+    )
+
+pub write_bytes-requires : goal.write_bytes-requires
+write_bytes-requires c =
+    let a = c.args in
+    omega (
+      arith,
+      length_places a.pre a.post,
+      length_same c.wide.ensures.0,
+      length_same c.wide-2.ensures.0,
+    )
+
+pub returns : goal.returns
+unfolding places_bytes
+returns c =
+    writes_append c.write_bytes-a.ensures
+    (writes_append (writes_same c.wide.ensures.0 c.write_figure-b.ensures)
+    (writes_append c.write_bytes-c.ensures
+    (writes_append (writes_same c.wide-2.ensures.0 c.write_figure-d.ensures) c.write_bytes.ensures)))
