@@ -88,6 +88,9 @@ class Turn:
             return self.from_place(v[1], v[2], fields)
         if v[0] == "new":
             return self.in_new(v[1], fields)
+        if v[0] == "step":
+            start, at, f = v[1]
+            return self.from_place(start, at, [f] + list(fields))
         if v[0] == "arm":
             start, f, tail = v[1]
             tail = tail + list(fields)
@@ -145,6 +148,8 @@ class Turn:
                     tail = [{"taken": "true", "left": "false"}[tail[0]]] + tail[1:]
                 if tail and norm(tail[0]) in info["subs"]:
                     tail = [info["subs"][norm(tail[0])]] + tail[1:]
+                if not tail and info["callee"]:
+                    return ("step", (start, at, f))
                 return ("text", "c." + ".".join([info["new_field"]] + tail))
         self.notes.append(f"no step {rest[0]} before {start}")
         return ("text", "c." + ".".join(rest))
@@ -250,7 +255,7 @@ class Turn:
                 if end:
                     rhs = text[m.end() : end[0]].strip()
                     got = self.parse(rhs, 0, env) if rhs else None
-                    if got and got[1] == len(rhs) and got[0][0] in ("place", "new", "clauses", "arm"):
+                    if got and got[1] == len(rhs) and got[0][0] in ("place", "new", "clauses", "arm", "step"):
                         env[m.group(1)] = got[0]
                         i = end[1]
                         continue
@@ -260,6 +265,21 @@ class Turn:
                     out.append(f"let {m.group(1)} {typ}= {inner.strip()} in" if typ else f"let {m.group(1)} = {inner.strip()} in")
                     i = end[0] + re.match(r"\s*in\b", text[end[0] :]).end()
                     continue
+            m = re.compile(r"let\s+(?=\()").match(text, i) if at_word else None
+            if m:
+                e = self.close(text, m.end())
+                pattern = text[m.end() : e]
+                m2 = re.compile(r"\s*=\s*").match(text, e)
+                end = self.find_in(text, m2.end()) if m2 else None
+                if end:
+                    rhs = text[m2.end() : end[0]].strip()
+                    got = self.parse(rhs, 0, env)
+                    if got and got[1] == len(rhs) and got[0][0] == "clauses":
+                        lets = self.apart(pattern, got[0][1])
+                        if lets:
+                            out.append(lets)
+                            i = end[0] + re.match(r"\s*in\b", text[end[0] :]).end()
+                            continue
             m = re.compile(r"λ\s+([^.]*?)\.").match(text, i)
             if m:
                 # a binder hides a place of its name
@@ -330,6 +350,23 @@ class Turn:
                     return j + 1
         return len(text)
 
+    def apart(self, pattern, clauses):
+        """A pattern of nested pairs over clauses: a let for each clause."""
+        text, names = clauses
+        lets = []
+        rest = pattern
+        for k, name in enumerate(names):
+            if k < len(names) - 1:
+                got = top_tuple(rest)
+                if not got[1] or len(got[1]) < 2:
+                    return None
+                first, rest = got[1][0], got[1][1] if len(got[1]) == 2 else "(" + ", ".join(got[1][1:]) + ")"
+            else:
+                first = rest
+            if first != "_":
+                lets.append(f"let {first} = {text}.{name} in")
+        return "\n    ".join(lets)
+
     def show(self, v, goal, own_place):
         if v[0] == "text":
             return v[1]
@@ -338,6 +375,10 @@ class Turn:
         if v[0] == "clauses":
             text, names = v[1]
             return "(" + ", ".join(f"{text}.{n}" for n in names) + ")"
+        if v[0] == "step":
+            for q in self.n.chain(v[1][0]):
+                if self.n.place[q]["old_field"] == v[1][2]:
+                    return "c." + self.n.place[q]["new_field"]
         if v[0] == "arm":
             self.notes.append(f"all of an arm is handed on: {v[1]}")
             return "c." + ".".join([v[1][1]] + v[1][2])
