@@ -125,6 +125,8 @@ class Turn:
             return ("place", start, at)
         f, tail = norm(rest[0]), list(rest[1:])
         if f in ("args", "ranges", "lifetimes", "well-formed", "type-inv", "table"):
+            if tail:
+                tail[0] = re.sub(r"_lem$", "", tail[0]).replace("-", "_")
             return ("text", "c." + ".".join([rest[0]] + tail))
         if f in ("requires", "pre"):
             return self.project(("clauses", ("c.requires", self.own)), tail) if self.own and len(self.own) > 1 else ("text", "c." + ".".join(["requires"] + tail))

@@ -1,12 +1,8 @@
 -- `name_service::no_part` meets its contract: the part is the empty one at the text's beginning.
 use mathlib.Core.Path.{refl}
 use Rattle.rows.specs.Tables.{verdict_refusal}
-use Rattle.name_service.proofs.no_part.Statement.{statement}
-use Rattle.name_service.proofs.no_part.Tie as tie
+use Rattle.name_service.proofs.no_part.Goals as goal
 
-returns : tie.Need-returns
+pub returns : goal.returns
 unfolding verdict_refusal
 returns c = record { verdict = refl; begins = refl; ends = refl }
-
-pub no-part-spec : {M : Type 1} → statement M
-no-part-spec = tie.close (tie.spec returns)
