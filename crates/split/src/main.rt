@@ -1,8 +1,7 @@
 // The program: what the words of its command line ask for, on the text, or the sheet, on standard input.
 #![tactic(auto)]
 
-ghost use Rattle.std.specs.Prelude.{◌+◌, ◌≤◌, ◌<◌, ◌≡◌, [], ◌∷◌, ◌++◌, length};
-ghost use Rattle.io.specs.Counts.{IsPrefixLen};
+ghost use Rattle.std.specs.Prelude.{◌+◌, ◌≤◌, ◌<◌, ◌≡◌, [], ◌∷◌, ◌++◌, length, take};
 ghost use Rattle.writers.specs.Written.{Writes};
 ghost use Rattle.command_line.specs.WordRow.{words_in, EachEnded};
 ghost use Rattle.replies.specs.declared.Reply.TheVariants as R;
@@ -56,7 +55,8 @@ fn count_words(env: &impl Env) -> usize {
 
 // One that is missing or is longer than the room reads as an empty one.
 fn take_word(env: &impl Env, i: usize, word: &mut [u8]) -> usize
-    ensures { IsPrefixLen result word.new }
+    ensures within { result ≤ length word.new }
+    ensures counted { result ≡ length (take result word.new) }
 {
     match env.arg(i, word) {
         Ok(len) => len,
@@ -85,7 +85,8 @@ fn gather(env: &impl Env, words: usize, row: &mut [u8]) -> Gathered
 // Until the text is full or its end; a read that fails is taken for the end.
 fn read_text(input: &impl Input, text: &mut [u8]) -> usize
     requires { length text.old ≡ 32769 }
-    ensures { IsPrefixLen result text.new }
+    ensures within { result ≤ length text.new }
+    ensures counted { result ≡ length (take result text.new) }
 {
     let mut reader = input.reader();
     let mut n = 0;
