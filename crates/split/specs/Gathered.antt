@@ -1,4 +1,4 @@
--- The words of the command line in their row. What `os::arg` puts into a buffer is not known but for its length, so these are some words, as many as there are.
+-- The words of the command line in their row. What `Env::arg` puts into a buffer is not known but for its length, so these are some words, as many as there are.
 use Rattle.std.specs.Prelude.{ℕ, ◌-◌, ◌<◌, ◌≤◌, ◌≡◌, List, length, take}
 use Rattle.command_line.specs.WordRow.{row_of}
 use Rattle.split.specs.declared.Gathered.{Gathered}

@@ -1,8 +1,7 @@
 // The program: what the words of its command line ask for, on the text, or the sheet, on standard input.
 #![tactic(auto)]
 
-ghost use Rattle.std.specs.Prelude.{◌+◌, ◌≤◌, ◌<◌, ◌≡◌, [], ◌∷◌, ◌++◌, length};
-ghost use Rattle.io.specs.Counts.{IsPrefixLen};
+ghost use Rattle.std.specs.Prelude.{◌+◌, ◌≤◌, ◌<◌, ◌≡◌, [], ◌∷◌, ◌++◌, length, take};
 ghost use Rattle.writers.specs.Written.{Writes};
 ghost use Rattle.command_line.specs.WordRow.{words_in, EachEnded};
 ghost use Rattle.replies.specs.declared.Reply.TheVariants as R;
@@ -12,9 +11,10 @@ ghost use Rattle.split.specs.Gathered.{Gathers};
 use answering::answer;
 use command_line::{word_begin, word_end};
 use help::{put_explanation, put_help, put_missing, put_text_form, put_too_long, put_wrong};
-use libc::{STDIN_FILENO, STDOUT_FILENO};
 use model::MAX_TEXT;
 use replies::{Reply, reply_asked};
+use std::env::{Env, FillError};
+use std::io::{Input, Print, Read};
 use writers::write_bytes;
 
 // One byte more than a text or a sheet may have is read, so that a longer one is refused.
@@ -40,15 +40,39 @@ fn put_word(word: &[u8], row: &mut [u8], at: usize) -> usize
     write_bytes(b"\0", row, end)
 }
 
+// How many words the command line has; word 0 is the program's own name.
+fn count_words(env: &impl Env) -> usize {
+    let mut start = [0u8; 1];
+    let mut words = 0;
+    while words < usize::MAX {
+        if let Err(FillError::NotPresent) = env.arg(words, &mut start) {
+            return words;
+        }
+        words += 1;
+    }
+    words
+}
+
+// One that is missing or is longer than the room reads as an empty one.
+fn take_word(env: &impl Env, i: usize, word: &mut [u8]) -> usize
+    ensures within { result ≤ length word.new }
+    ensures counted { result ≡ length (take result word.new) }
+{
+    match env.arg(i, word) {
+        Ok(len) => len,
+        Err(_) => 0,
+    }
+}
+
 // The words after the program's own name, which is word 0. One that is missing or has more than 4,096 bytes reads as an empty one.
-fn gather(words: usize, row: &mut [u8]) -> Gathered
+fn gather(env: &impl Env, words: usize, row: &mut [u8]) -> Gathered
     ensures { Gathers words result row.new }
 {
     let mut n = 0;
     let mut i = 1;
     while i < words {
-        let mut word = io::buffer();
-        let len = os::arg(i, &mut word);
+        let mut word = [0u8; 4096];
+        let len = take_word(env, i, &mut word);
         if row.len() - n <= len {
             return Gathered::TooLong;
         }
@@ -58,38 +82,52 @@ fn gather(words: usize, row: &mut [u8]) -> Gathered
     Gathered::Words(n)
 }
 
-fn read_text(text: &mut [u8]) -> usize
+// Until the text is full or its end; a read that fails is taken for the end.
+fn read_text(input: &impl Input, text: &mut [u8]) -> usize
     requires { length text.old ≡ 32769 }
-    ensures { IsPrefixLen result text.new }
+    ensures within { result ≤ length text.new }
+    ensures counted { result ≡ length (take result text.new) }
 {
-    io::read_full(STDIN_FILENO, text)
+    let mut reader = input.reader();
+    let mut n = 0;
+    while n < text.len() {
+        let len = match reader.read(&mut text[n..]) {
+            Ok(len) => len,
+            Err(_) => 0,
+        };
+        if len == 0 {
+            break;
+        }
+        n += len;
+    }
+    n
 }
 
 // Words of a service have an answer, whatever the text (`served`).
-fn serve(words: &mut [u8])
+fn serve(rt: &(impl Input + Print), words: &mut [u8])
     requires { (reply_asked (words_in words.old) ≡ R.Service) × EachEnded words.old }
 {
     let mut text = [0u8; TEXT_ROOM];
-    let n = read_text(&mut text);
+    let n = read_text(rt, &mut text);
     let mut out = [0u8; MAX_TEXT];
     let size = answer(words, &text[..n], &mut out);
-    io::write_all(STDOUT_FILENO, &out[..size]);
+    let _ = rt.write_all(&out[..size]);
 }
 
-fn tell_wrong(words: &[u8], number: usize)
+fn tell_wrong(err: &impl Print, words: &[u8], number: usize)
     requires { reply_asked (words_in words.now) ≡ R.Usage number }
 {
     let at = word_begin(words, number);
     if at < words.len() {
         let end = word_end(words, at);
-        put_wrong(number, &words[at..end]);
+        put_wrong(err, number, &words[at..end]);
     } else {
-        put_missing(number);
+        put_missing(err, number);
     }
 }
 
 // The details are the third word and the fourth.
-fn explain(words: &[u8], refusal: usize)
+fn explain(out: &impl Print, words: &[u8], refusal: usize)
     requires { reply_asked (words_in words.now) ≡ R.Explanation refusal }
 {
     let first = word_begin(words, 3);
@@ -97,22 +135,23 @@ fn explain(words: &[u8], refusal: usize)
     let second = word_begin(words, 4);
     let second_end = word_end(words, second);
     put_explanation(
+        out,
         refusal,
         &words[first..first_end],
         &words[second..second_end],
     );
 }
 
-fn respond(words: &mut [u8])
+fn respond(rt: &(impl Input + Print), err: &impl Print, words: &mut [u8])
     requires { EachEnded words.old }
 {
     let reply = reply_asked(words);
     match reply {
-        Reply::Usage(number) => tell_wrong(words, number),
-        Reply::Help => put_help(),
-        Reply::TextForm => put_text_form(),
-        Reply::Explanation(refusal) => explain(words, refusal),
-        Reply::Service => serve(words),
+        Reply::Usage(number) => tell_wrong(err, words, number),
+        Reply::Help => put_help(rt),
+        Reply::TextForm => put_text_form(rt),
+        Reply::Explanation(refusal) => explain(rt, words, refusal),
+        Reply::Service => serve(rt, words),
     }
 }
 
@@ -123,21 +162,22 @@ fn many_words_row() -> [u8; MANY_WORDS]
 }
 
 // Only where they do not lie in a small row is a large one cleared.
-fn respond_to_many(words: usize) {
+fn respond_to_many(rt: &(impl Env + Input + Print), err: &impl Print, words: usize) {
     let mut row = many_words_row();
-    let gathered = gather(words, &mut row);
+    let gathered = gather(rt, words, &mut row);
     match gathered {
-        Gathered::Words(n) => respond(&mut row[..n]),
-        Gathered::TooLong => put_too_long(),
+        Gathered::Words(n) => respond(rt, err, &mut row[..n]),
+        Gathered::TooLong => put_too_long(err),
     }
 }
 
-fn main() {
-    let words = os::arg_count();
-    let mut row = io::buffer();
-    let gathered = gather(words, &mut row);
+fn main(rt: HostRuntime) {
+    let err = rt.stderr();
+    let words = count_words(&rt);
+    let mut row = [0u8; 4096];
+    let gathered = gather(&rt, words, &mut row);
     match gathered {
-        Gathered::Words(n) => respond(&mut row[..n]),
-        Gathered::TooLong => respond_to_many(words),
+        Gathered::Words(n) => respond(&rt, &err, &mut row[..n]),
+        Gathered::TooLong => respond_to_many(&rt, &err, words),
     }
 }
