@@ -26,6 +26,7 @@ rising_numbers (suc n) = rising_append ◌<◌ (numbers n) (n ∷ []) (rising_nu
     last x y k (Memᴰ.tail j) = elim j [ ]
 
 pub rising_before : (l : List ℕ) (q : ℕ) (k : List ℕ) → Rising ◌<◌ (l ++ (q ∷ k)) → (y : ℕ) → Memᴰ y l → y < q
+rising_before [] q k r y x'' = elim x'' [ ]
 rising_before (x ∷ l) q k r y (Memᴰ.head e) = subst (λ (v : ℕ). v < q) (sym e) (r.0 q (mid_here q l k))
 rising_before (x ∷ l) q k r y (Memᴰ.tail m) = rising_before l q k r.1 y m
 
@@ -40,6 +41,7 @@ at_beyond (y ∷ l) k zero x h a = absurd (omega arith)
 at_beyond (y ∷ l) k (suc d) x h a = at_beyond l k d x (omega arith) a
 
 pub mem_length : {A : Type 0} (l : List A) (x : A) → Memᴰ x l → 0 < length l
+mem_length {A = A} [] x k = elim k [ ]
 mem_length (y ∷ l) x k = omega arith
 
 index_left : {A : Type 0} (f : A → Bool) (l k : List A) (c : ℕ) → c < length l → c < index f (l ++ k) → c < index f l

@@ -4,11 +4,9 @@ use native.Mathlib.Omega.{arith}
 use mathlib.Core.Path.{◌≡◌, refl, ap, sym, ◌∙◌}
 use mathlib.Core.Logic.{◌⊎◌, inl, inr}
 use mathlib.Core.Bool.{Bool, true, false, not, cond, and-false}
-use mathlib.Core.List.{List, [], ◌∷◌}
+use mathlib.Core.List.{List, []}
 use mathlib.Core.Option.{none, some, some-injective, some-ne-none}
 use borrow.Author.Tests.{le-leb, lt-leb, not-true, not-false}
-use denote.Enum.Declared.{tag_of}
-use types.Run.{OneOf, miss}
 use lib.Dec.{leb}
 use lib.ListN.{length, take, drop, drop_of_length-le}
 use Rattle.model.specs.declared.Refusal.{Refusal}
@@ -24,7 +22,6 @@ use Rattle.command_line.specs.Words.{same_word, is_numeral, said, number_said}
 use Rattle.command_line.specs.WordRow.{begun_by, words_in, WordCut}
 use Rattle.command_line.specs.Program.{service_asked, further_words}
 use Rattle.replies.specs.Replies.{is_refusal, refusal_names, number_from, refusal_said, takes, least_words, wrong_from, is_unknown, wrong_word}
-use Rattle.command_line.specs.contracts.Service.{the_type}
 use Rattle.command_line.proofs.Cutting.{no_words}
 
 -- ---- the number of a word in a row
@@ -150,8 +147,8 @@ module _ {s : List ℕ} {a : Service} where
 
 -- ---- all words
 
--- the last key is that of no service
-known : (a : Service) → OneOf (0 ∷ 1 ∷ 2 ∷ 3 ∷ 4 ∷ 5 ∷ 6 ∷ 7 ∷ 8 ∷ 9 ∷ 10 ∷ []) (tag_of the_type a) → is_unknown a ≡ false
+-- the last is no service
+known : (a : Service) → ¬ (a ≡ Unknown) → is_unknown a ≡ false
 unfolding is_unknown
 known Check k = refl
 known Steps k = refl
@@ -164,7 +161,7 @@ known Sheet k = refl
 known Board k = refl
 known Help k = refl
 known Explain k = refl
-known Unknown k = absurd (miss (0 ∷ 1 ∷ 2 ∷ 3 ∷ 4 ∷ 5 ∷ 6 ∷ 7 ∷ 8 ∷ 9 ∷ 10 ∷ []) 11 tt k)
+known Unknown k = absurd (k refl)
 
 module _ (s : List ℕ) {a : Service} (p : a ≡ service_asked (words_in s)) where
   wrong_as : cond (is_unknown a) 1 (wrong_from a 0 (further_words (words_in s))) ≡ wrong_word (words_in s)
@@ -175,5 +172,5 @@ module _ (s : List ℕ) {a : Service} (p : a ≡ service_asked (words_in s)) whe
   unfolding is_unknown
   first_wrong e = rw e at wrong_as
 
-  pub wrong_behind : OneOf (0 ∷ 1 ∷ 2 ∷ 3 ∷ 4 ∷ 5 ∷ 6 ∷ 7 ∷ 8 ∷ 9 ∷ 10 ∷ []) (tag_of the_type a) → {r : ℕ} → r ≡ wrong_from a 0 (further_words (words_in s)) → r ≡ wrong_word (words_in s)
+  pub wrong_behind : ¬ (a ≡ Unknown) → {r : ℕ} → r ≡ wrong_from a 0 (further_words (words_in s)) → r ≡ wrong_word (words_in s)
   wrong_behind k {r} e = e ∙ (rw (known a k) at wrong_as)

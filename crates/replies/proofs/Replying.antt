@@ -3,10 +3,8 @@ use Prim.Native.Nat.{ℕ, ◌-◌, ◌<◌, ◌≤◌}
 use native.Mathlib.Omega.{arith}
 use mathlib.Core.Path.{◌≡◌, refl, ap, sym, ◌∙◌}
 use mathlib.Core.Bool.{cond}
-use mathlib.Core.List.{List, [], ◌∷◌}
+use mathlib.Core.List.{List}
 use borrow.Author.Tests.{eq-eqb, ne_eqb}
-use denote.Enum.Declared.{tag_of}
-use types.Run.{OneOf, miss}
 use lib.Dec.{eqb}
 use lib.ListN.{length, take, drop}
 use Rattle.command_line.specs.declared.Service.{Service}
@@ -16,7 +14,6 @@ use Rattle.replies.specs.declared.Reply.TheVariants as R
 use Rattle.command_line.specs.WordRow.{words_in, WordCut}
 use Rattle.command_line.specs.Program.{service_asked, further_words}
 use Rattle.replies.specs.Replies.{refusal_said, wrong_word, help_asked, explanation_asked, reply_by, reply_asked}
-use Rattle.command_line.specs.contracts.Service.{the_type}
 use Rattle.command_line.proofs.Cutting.{words_from, no_words, Some, words, some_words, first_of}
 
 -- ---- help and explanations
@@ -42,8 +39,11 @@ explains {s} {end} c h e = ap R.Explanation e ∙ sym (ap explanation_asked (fir
 
 -- ---- all words
 
--- the first nine serve
-serves_by : (a : Service) (ws : List (List ℕ)) → OneOf (0 ∷ 1 ∷ 2 ∷ 3 ∷ 4 ∷ 5 ∷ 6 ∷ 7 ∷ 8 ∷ []) (tag_of the_type a) → R.Service ≡ reply_by a ws
+-- a service is asked for whose work is the library's: neither help nor an explanation
+abbrev pub Serves : Service → Type 0
+Serves a = ¬ (a ≡ Help) × ¬ (a ≡ Explain) × ¬ (a ≡ Unknown)
+
+serves_by : (a : Service) (ws : List (List ℕ)) → Serves a → R.Service ≡ reply_by a ws
 unfolding reply_by
 serves_by Check ws k = refl
 serves_by Steps ws k = refl
@@ -54,9 +54,9 @@ serves_by Merge ws k = refl
 serves_by Quote ws k = refl
 serves_by Sheet ws k = refl
 serves_by Board ws k = refl
-serves_by Help ws k = absurd (miss (0 ∷ 1 ∷ 2 ∷ 3 ∷ 4 ∷ 5 ∷ 6 ∷ 7 ∷ 8 ∷ []) 9 tt k)
-serves_by Explain ws k = absurd (miss (0 ∷ 1 ∷ 2 ∷ 3 ∷ 4 ∷ 5 ∷ 6 ∷ 7 ∷ 8 ∷ []) 10 tt k)
-serves_by Unknown ws k = absurd (miss (0 ∷ 1 ∷ 2 ∷ 3 ∷ 4 ∷ 5 ∷ 6 ∷ 7 ∷ 8 ∷ []) 11 tt k)
+serves_by Help ws k = absurd (k.0 refl)
+serves_by Explain ws k = absurd (k.1 refl)
+serves_by Unknown ws k = absurd (k.2 refl)
 
 module _ (s : List ℕ) {wrong : ℕ} (q : wrong ≡ wrong_word (words_in s)) where
   reply_as : cond (eqb wrong 0) (reply_by (service_asked (words_in s)) (further_words (words_in s))) (R.Usage wrong) ≡ reply_asked (words_in s)
@@ -76,7 +76,7 @@ module _ (s : List ℕ) {wrong : ℕ} (q : wrong ≡ wrong_word (words_in s)) wh
     unfolding reply_by
     unknown e = reply_of e
 
-    pub serves : OneOf (0 ∷ 1 ∷ 2 ∷ 3 ∷ 4 ∷ 5 ∷ 6 ∷ 7 ∷ 8 ∷ []) (tag_of the_type a) → R.Service ≡ reply_asked (words_in s)
+    pub serves : Serves a → R.Service ≡ reply_asked (words_in s)
     serves k = serves_by a (further_words (words_in s)) k ∙ reply_of refl
 
     -- the further words are those from a place on

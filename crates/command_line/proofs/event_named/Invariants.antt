@@ -1,0 +1,14 @@
+-- `command_line::event_named` meets its contract: the names passed are others. The laws are in `Declaring`.
+use Prim.Native.Nat.{◌-◌}
+use mathlib.Core.Path.{◌≡◌}
+use mathlib.Core.Bool.{false}
+use Rattle.model.specs.Bytes.{same_name}
+use Rattle.rows.proofs.Searches.{Upto}
+use Rattle.rows.proofs.Names.{name_in}
+use Rattle.command_line.proofs.event_named.Given as goal
+
+abbrev pub invariant-loop-e : goal.invariant-loop-e
+invariant-loop-e l = Upto (λ j. same_name l.word (name_in l.text l.ats l.lens j) ≡ false) l.events l.e
+
+abbrev pub decreases-loop-e : goal.decreases-loop-e
+decreases-loop-e l = l.events - l.e

@@ -1,0 +1,16 @@
+-- `irredundant::extend` meets its contract: the events passed have their sets on one machine more. The laws are in `Extending`.
+use native.Mathlib.Omega.{arith}
+use Rattle.irredundant.proofs.Extending.{extend_start, extend_more, extend_end}
+use Rattle.irredundant.proofs.extend.Goals as goal
+
+pub loop-e-init : goal.loop-e-init
+loop-e-init c = extend_start
+
+pub loop-e-preserved : goal.loop-e-preserved
+loop-e-preserved c =
+    extend_more c.load-common.result c.meet_pre.result
+    c.requires.0 c.loop-e.invariant c.loop-e-test.true
+    c.load-common.ensures c.meet_pre.ensures (omega arith) c.store.ensures
+
+pub returns : goal.returns
+returns c = extend_end c.loop-e.invariant c.loop-e-test.false

@@ -1,0 +1,15 @@
+-- `irredundant::meet_below` meets its contract: the machines passed have their sets. The laws are in `Extending`.
+use native.Mathlib.Omega.{arith}
+use Rattle.irredundant.proofs.Extending.{below_start, below_more, below_end}
+use Rattle.irredundant.proofs.meet_below.Goals as goal
+
+pub loop-m-init : goal.loop-m-init
+loop-m-init c = below_start c.requires.3
+
+pub loop-m-preserved : goal.loop-m-preserved
+loop-m-preserved c =
+    below_more c.loop-m.invariant (omega arith) (omega arith)
+    c.extend.ensures
+
+pub returns : goal.returns
+returns c = below_end c.loop-m.invariant c.loop-m-test.false
