@@ -1,0 +1,89 @@
+-- `printing::print_ran` meets its contract: the refusal's line, or how far the run went and the places. The laws are in `Runs`.
+use Prim.Native.Nat.{ℕ}
+use native.Mathlib.Omega.{arith}
+use mathlib.Core.Option.{some}
+use mathlib.Core.Path.{sym}
+use borrow.Author.Rules.{rules}
+use Rattle.model.specs.Printed.{ran_word}
+use Rattle.writers.specs.Written.{Writes}
+use Rattle.writers.proofs.Writing.{writes_append, writes_length}
+use Rattle.writers.proofs.Refusals.{numeral_most}
+use Rattle.printing.proofs.Showing.{shows_same}
+use Rattle.printing.proofs.Lines.{shows_as}
+use Rattle.printing.proofs.Places.{places_most}
+use Rattle.printing.proofs.Runs.{line_refused, line_whole, line_blocked, few_whole, few_blocked, blocked_most}
+use Rattle.printing.proofs.print_ran.Goals.{After-write_bytes-e, In-Blocked}
+use Rattle.printing.proofs.print_ran.Goals as goal
+
+-- how many events ran, and the machine that blocked the next
+abbrev count : In-Blocked → ℕ
+count c = c.in-Blocked.ran
+
+abbrev blocker : In-Blocked → ℕ
+blocker c = c.in-Blocked.machine
+
+-- what stands before them then
+begun : (c : After-write_bytes-e)
+    → Writes (ran_word (count (goal.at.After-write_bytes-e c).In-Blocked) (some (blocker (goal.at.After-write_bytes-e c).In-Blocked))) 0 c.args.out.now c.write_bytes-e.result
+    c.write_bytes-e.new.out
+unfolding ran_word
+begun c =
+    writes_append c.write_bytes-a-in-Blocked.ensures
+    (writes_append c.write_numeral-b.ensures
+    (writes_append c.write_bytes-c.ensures (writes_append c.write_numeral-d.ensures c.write_bytes-e.ensures)))
+
+pub write_places-requires : goal.write_places-requires
+write_places-requires c = (few_whole c.requires.1 c.in-Whole.is, omega arith)
+
+pub write_numeral-b-requires : goal.write_numeral-b-requires
+write_numeral-b-requires c = omega (arith, numeral_most (count (goal.at.write_numeral-b-requires c).In-Blocked))
+
+pub write_bytes-c-requires : goal.write_bytes-c-requires
+write_bytes-c-requires c = omega (
+  arith,
+  numeral_most (count (goal.at.write_bytes-c-requires c).In-Blocked),
+)
+
+pub write_numeral-d-requires : goal.write_numeral-d-requires
+write_numeral-d-requires c =
+    omega (
+      arith,
+      numeral_most (count (goal.at.write_numeral-d-requires c).In-Blocked),
+      numeral_most (blocker (goal.at.write_numeral-d-requires c).In-Blocked),
+    )
+
+pub write_bytes-e-requires : goal.write_bytes-e-requires
+write_bytes-e-requires c =
+    omega (
+      arith,
+      numeral_most (count (goal.at.write_bytes-e-requires c).In-Blocked),
+      numeral_most (blocker (goal.at.write_bytes-e-requires c).In-Blocked),
+    )
+
+pub write_places-requires-in-Blocked : goal.write_places-requires-in-Blocked
+write_places-requires-in-Blocked c =
+    let w = begun (goal.at.write_places-requires-in-Blocked c).After-write_bytes-e in
+    (few_blocked c.requires.1 c.in-Blocked.is, omega (arith, w.after, writes_length w, c.requires.0, blocked_most (count (goal.at.write_places-requires-in-Blocked c).In-Blocked) (blocker (goal.at.write_places-requires-in-Blocked c).In-Blocked)))
+
+pub returns-in-Refused : goal.returns-in-Refused
+returns-in-Refused c =
+    shows_same (sym (line_refused _ c.in-Refused.is)) c.print_refusal.ensures
+
+pub returns-in-Whole : goal.returns-in-Whole
+returns-in-Whole c =
+    shows_as (line_whole _ c.in-Whole.is) (writes_append c.write_bytes-a.ensures c.write_places.ensures)
+    (omega (arith, places_most c.args.answer.places c.args.machines (few_whole c.requires.1 c.in-Whole.is))) c.requires.0
+
+pub returns-in-Blocked : goal.returns-in-Blocked
+returns-in-Blocked c =
+    let w = begun (goal.at.returns-in-Blocked c).After-write_bytes-e in
+    let v = c.write_places-in-Blocked.ensures in
+    shows_as (line_blocked _ c.in-Blocked.is) (writes_append w v)
+    (omega (
+      arith,
+      w.after,
+      v.after,
+      blocked_most (count (goal.at.returns-in-Blocked c).In-Blocked) (blocker (goal.at.returns-in-Blocked c).In-Blocked),
+      places_most c.args.answer.places c.args.machines (few_blocked c.requires.1 c.in-Blocked.is),
+    ))
+    c.requires.0
