@@ -1,0 +1,8 @@
+-- `split_c::split_run` meets its contract: what `run` answers, flat.
+use borrow.Author.Rules.{rules}
+use mathlib.Core.Path.{ap, ◌∙◌}
+use Rattle.flat.specs.Flat.{flat_run}
+use Rattle.split_c.proofs.split_run.Goals as goal
+
+pub returns : goal.returns
+returns c = c.flat_run.ensures ∙ ap flat_run c.run.ensures
