@@ -9,7 +9,7 @@ use Rattle.model.specs.declared.Refusal.TheVariants.{BadSheet, BufferTooShort}
 use Rattle.model.specs.Cases.{tabled}
 use Rattle.model.specs.Refusal.{refuse, Checked, refused, passed}
 use Rattle.model.specs.Sheet.{Board}
-use Rattle.model.specs.Services.{RunAnswer, ran_answer, lend}
+use Rattle.model.specs.Services.{ran_answer, lend}
 use Rattle.model.specs.Board.{read_sheet, rewrite, start_places, board_run}
 use Rattle.model.proofs.BoardCalls.{loading}
 use Rattle.model.proofs.Verdicts.{refused_passed, same_passed}

@@ -8,7 +8,7 @@ use lib.Seq.{ext_get_or}
 use Rattle.model.specs.declared.Refusal as D
 use Rattle.model.specs.declared.Refusal.TheVariants as C
 use Rattle.model.specs.Cases.{tabled}
-use Rattle.model.specs.Refusal.{Refusal, refuse, refused, passed}
+use Rattle.model.specs.Refusal.{refuse, refused, passed}
 use Rattle.model.specs.Services as Services
 use Rattle.model.specs.Services.{blocked, refused_by}
 use Rattle.product.specs.declared.Outcome.{Outcome}

@@ -1,5 +1,5 @@
 -- A step line is read where its words stand one after another.
-use Rattle.std.proofs.Common.{◌≡◌, ℕ, ◌+◌, ◌-◌, ◌*◌, ◌/◌, ◌^◌, ◌<◌, ◌≤◌, Bool, true, ◌&&◌, eqb, ltb, List, [], length, get_or, drop, sym, refl, ap, ◌∙◌, arith, length-drop, ltb-true, eqb-true}
+use Rattle.std.proofs.Common.{◌≡◌, ℕ, ◌+◌, ◌-◌, ◌*◌, ◌<◌, ◌≤◌, Bool, true, ◌&&◌, eqb, ltb, List, [], length, get_or, drop, sym, refl, ap, ◌∙◌, arith, length-drop, ltb-true, eqb-true}
 use Rattle.model.specs.Bytes.{bytes, Name, IsName, OneEvent}
 use Rattle.model.specs.Reading.{got, part}
 use Rattle.model.specs.Form.{step, written, step_line}

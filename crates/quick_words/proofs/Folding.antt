@@ -8,7 +8,7 @@ use Rattle.model.specs.Bytes.{lower, Letter, Digit, Name, OneEvent}
 use Rattle.model.proofs.Laws.{lowest_none, not_not}
 use Rattle.model.proofs.ListLaws.{each_image}
 use Rattle.model.proofs.OneEvent.{Lowered, capital, other, lowered}
-use Rattle.lexer.specs.Words.{packed_from, packed}
+use Rattle.lexer.specs.Words.{packed_from}
 use Rattle.lexer.proofs.Telling.{EachByte, InSmall, letter, below, in_small}
 use Rattle.quick_words.specs.Guessed.{fold, Folds}
 

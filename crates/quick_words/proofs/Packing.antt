@@ -3,7 +3,7 @@ use Rattle.std.proofs.Common.{◌≡◌, ℕ, zero, suc, ◌+◌, ◌-◌, ◌*�
 use mathlib.Core.List.Memᴰ
 use lib.ListN.{length-map}
 use lib.Pow.{high}
-use Rattle.model.specs.Bytes.{bytes, lower}
+use Rattle.model.specs.Bytes.{lower}
 use Rattle.model.specs.Lists.{every}
 use Rattle.model.specs.Reading.{part}
 use Rattle.model.proofs.Laws.{order, every_elim}

@@ -1,5 +1,5 @@
 -- Rows of numbers: what stands where.
-use Rattle.std.specs.Prelude.{ℕ, zero, suc, ◌+◌, cond, replicate}
+use Rattle.std.specs.Prelude.{ℕ, zero, suc, cond, replicate}
 use mathlib.Core.List.{List, [], ◌∷◌, ◌++◌, flatten}
 use Rattle.std.proofs.Math.Option.{Option, none, some}
 use Rattle.std.proofs.lemmas.List.Edits.{sets}

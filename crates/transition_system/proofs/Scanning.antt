@@ -7,7 +7,6 @@ use mathlib.Core.List.{List, [], ◌∷◌, ◌++◌, append_assoc, append-nil}
 use mathlib.Core.Option.{Option, none, some, some-ne-none, or_else}
 use lib.ListN.{length}
 use Rattle.model.specs.declared.Refusal as D
-use Rattle.model.specs.Refusal.{Refusal}
 use Rattle.model.specs.TransitionSystem.{Transition, transition_refusal, transitions_refusal}
 use Rattle.rows.specs.declared.Verdict.{Verdict}
 use Rattle.rows.specs.declared.Verdict.TheVariants.{Refused, Passed}

@@ -3,7 +3,6 @@ use mathlib.Core.Path.{sym}
 use Rattle.sheet_reader.specs.Lent.{lent_rows}
 use Rattle.sheet_reader.proofs.Sheeting.{fresh_board}
 use Rattle.board_service.proofs.Calling.{bad_read, GoodRead, good_read, board_bad, board_good}
-use borrow.Author.Rules.{rules}
 use Rattle.board_service.proofs.run_board.Goals.{In-Read}
 use Rattle.board_service.proofs.run_board.Goals as goal
 

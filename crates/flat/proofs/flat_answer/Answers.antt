@@ -1,5 +1,4 @@
 -- `flat::flat_answer` meets its contract.
-use borrow.Author.Rules.{rules}
 use Rattle.flat.proofs.Flattening.{answer_refused, answer_accepted}
 use Rattle.flat.proofs.flat_answer.Goals as goal
 

@@ -1,5 +1,4 @@
 -- `flat::flat_run` meets its contract: the outcome flat, and the places one by one.
-use borrow.Author.Rules.{rules}
 use Rattle.flat.specs.Flat.{with_places}
 use Rattle.flat.proofs.Flattening.{run_told}
 use Rattle.flat.proofs.flat_run.Goals as goal

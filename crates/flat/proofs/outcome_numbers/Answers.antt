@@ -1,5 +1,4 @@
 -- `flat::outcome_numbers` meets its contract.
-use borrow.Author.Rules.{rules}
 use Rattle.flat.proofs.Flattening.{outcome_whole, outcome_blocked, outcome_refused}
 use Rattle.flat.proofs.outcome_numbers.Goals as goal
 

@@ -1,5 +1,4 @@
 -- `lexer::byte_at` meets its contract: past the end `get_or` gives 0 too.
-use borrow.Author.Rules.{rules}
 use mathlib.Core.Path.{sym}
 use lib.ListN.{get_or-eq_default}
 use Rattle.lexer.proofs.byte_at.Goals as goal

@@ -1,5 +1,4 @@
 -- `lexer::is_letter` meets its contract: the two tests.
-use borrow.Author.Rules.{rules}
 use mathlib.Core.Path.{sym}
 use Rattle.model.specs.Bytes.{is_letter}
 use Rattle.lexer.proofs.is_letter.Goals as goal

@@ -1,5 +1,4 @@
 -- `lexer::is_name_byte` meets its contract: the tests so far decide each way out.
-use borrow.Author.Rules.{rules}
 use mathlib.Core.Path.{sym}
 use Rattle.model.specs.Bytes.{is_name_byte}
 use Rattle.lexer.proofs.is_name_byte.Goals as goal

@@ -1,11 +1,9 @@
 -- `lexer::pack_run` meets its contract: the loop's invariant and its laws are in `Packing`.
-use Prim.Native.Nat.{◌+◌, ◌-◌}
 use native.Mathlib.Omega.{arith}
 use mathlib.Core.Path.{refl}
-use borrow.Author.Rules.{rules}
 use Rattle.model.specs.Bytes.{is_digit, is_capital, is_letter, is_name_byte}
 use Rattle.lexer.proofs.Runs.{Passes, passing, failing}
-use Rattle.lexer.proofs.Packing.{Packing, pack_start, pack_more, pack_fits, pack_stop, pack_full}
+use Rattle.lexer.proofs.Packing.{pack_start, pack_more, pack_fits, pack_stop, pack_full}
 use Rattle.lexer.proofs.pack_run.Goals.{Else-not-is_name_byte}
 use Rattle.lexer.proofs.pack_run.Goals as goal
 
@@ -19,7 +17,7 @@ loop-i-init c = pack_start
 pub returns-then-not-is_name_byte : goal.returns-then-not-is_name_byte
 returns-then-not-is_name_byte c =
     let inv = c.loop-i.invariant in
-    record { next_value = pack_stop inv (failing c.is_name_byte.ensures c.byte_at-b.ensures c.if-not-is_name_byte.true-raw); value_value = inv.value; }
+    record { next_value = pack_stop inv (failing c.is_name_byte.ensures c.byte_at-b.ensures c.if-not-is_name_byte.true-raw); value_value = inv.value }
 
 pub overflow_mul-value : goal.overflow_mul-value
 overflow_mul-value c = omega (arith, pack_fits c.loop-i.invariant c.loop-i-test.true)
@@ -35,4 +33,4 @@ loop-i-preserved c =
     pack_more c.loop-i.invariant c.loop-i-test.true (name_byte_lem (goal.at.loop-i-preserved c).Else-not-is_name_byte) c.byte_at-b.ensures (omega arith) c.byte_word.ensures.0
 
 pub returns : goal.returns
-returns c = record { next_value = pack_full c.loop-i.invariant c.loop-i-test.false; value_value = c.loop-i.invariant.value; }
+returns c = record { next_value = pack_full c.loop-i.invariant c.loop-i-test.false; value_value = c.loop-i.invariant.value }

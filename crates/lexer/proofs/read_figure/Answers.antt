@@ -2,7 +2,6 @@
 use Prim.Native.Nat.{◌+◌}
 use native.Mathlib.Omega.{arith}
 use mathlib.Core.Path.{refl}
-use borrow.Author.Rules.{rules}
 use Rattle.model.specs.Bytes.{is_digit}
 use Rattle.lexer.proofs.Runs.{Passes, passing, failing}
 use Rattle.lexer.proofs.Words.{figure_none, figure_1, figure_zero, Two, figure_2, figure_3, figure_long}

@@ -1,10 +1,7 @@
 -- `lexer::read_literal` meets its contract: the loop compares two texts, and `Runs` has its laws.
-use borrow.Author.Rules.{rules}
 use Prim.Native.Nat.{◌-◌}
-use mathlib.Core.Path.{refl}
-use native.Mathlib.Omega.{arith}
 use lib.ListN.{length}
-use Rattle.lexer.proofs.Runs.{Matching, match_more, match_differ, match_short, match_end}
+use Rattle.lexer.proofs.Runs.{Matching}
 use Rattle.lexer.proofs.read_literal.Given as goal
 
 abbrev pub invariant-loop-i : goal.invariant-loop-i

@@ -2,7 +2,6 @@
 use native.Mathlib.Omega.{arith}
 use mathlib.Core.Path.{refl, ap}
 use mathlib.Core.Bool.{not}
-use borrow.Author.Rules.{rules}
 use Rattle.model.specs.Bytes.{is_digit, is_capital, is_letter, is_name_byte}
 use Rattle.lexer.proofs.Runs.{Passes, passing, failing}
 use Rattle.lexer.proofs.Packing.{Halves}

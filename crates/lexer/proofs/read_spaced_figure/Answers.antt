@@ -1,5 +1,4 @@
 -- `lexer::read_spaced_figure` meets its contract: a reader behind a literal.
-use borrow.Author.Rules.{rules}
 use Rattle.model.specs.Bytes.{bytes}
 use Rattle.model.specs.Reading.{figure}
 use Rattle.model.specs.Form.{spaced_figure}

@@ -1,13 +1,10 @@
 -- `lines::read_names` meets its contract: the loop keeps `Naming`.
-use Prim.Native.Nat.{ℕ, ◌-◌}
+use Prim.Native.Nat.{ℕ}
 use native.Mathlib.Omega.{arith}
 use mathlib.Core.Path.{refl}
-use mathlib.Core.Logic.{⊎_elim}
-use borrow.Author.Rules.{rules}
-use lib.ListN.{length}
 use Rattle.model.specs.Form.{spaced_name}
 use Rattle.lexer.proofs.Answers.{name_missing, GotName, name_got}
-use Rattle.lines.proofs.Events.{filling, Naming, names_start, name_reach, names_more, names_past, names_end}
+use Rattle.lines.proofs.Events.{names_start, name_reach, names_more, names_past, names_end}
 use Rattle.lines.proofs.read_names.Goals.{In-Found, then-k-lt-MAX_EVENTS, else-k-lt-MAX_EVENTS}
 use Rattle.lines.proofs.read_names.Goals as goal
 
@@ -25,7 +22,7 @@ loop-n-init c = names_start refl c.requires
 pub returns-in_default : goal.returns-in_default
 returns-in_default c =
     let all = names_end c.loop-n.invariant refl (name_missing _ c.read_spaced_name.ensures c.in_default.is) in
-    record { value = all.0; low_after = all.1; }
+    record { value = all.0; low_after = all.1 }
 
 pub overflow_sub-spot : goal.overflow_sub-spot
 overflow_sub-spot c = omega (arith, name_reach c.loop-n.invariant (item (goal.at.overflow_sub-spot c).In-Found))
@@ -64,7 +61,7 @@ pub loop-n-preserved : goal.loop-n-preserved
 loop-n-preserved c =
     let inv = c.loop-n.invariant in
     elim c.if-k-lt-MAX_EVENTS.branch [
-      then-k-lt-MAX_EVENTS w ↦ rw (w.spot-is, w.len-is, w.high-is, w.low-is) (names_more inv (item (goal.at.loop-n-preserved c).In-Found))
-    | else-k-lt-MAX_EVENTS w ↦
-        rw (w.spot-is, w.len-is, w.high-is, w.low-is) (names_past inv (item (goal.at.loop-n-preserved c).In-Found) w.if-k-lt-MAX_EVENTS.false)
+      | then-k-lt-MAX_EVENTS w ↦ rw (w.spot-is, w.len-is, w.high-is, w.low-is) (names_more inv (item (goal.at.loop-n-preserved c).In-Found))
+      | else-k-lt-MAX_EVENTS w ↦
+          rw (w.spot-is, w.len-is, w.high-is, w.low-is) (names_past inv (item (goal.at.loop-n-preserved c).In-Found) w.if-k-lt-MAX_EVENTS.false)
     ]

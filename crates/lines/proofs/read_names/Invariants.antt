@@ -1,13 +1,7 @@
 -- `lines::read_names` meets its contract: the loop keeps `Naming`.
-use Prim.Native.Nat.{ℕ, ◌-◌}
-use native.Mathlib.Omega.{arith}
-use mathlib.Core.Path.{refl}
-use mathlib.Core.Logic.{⊎_elim}
-use borrow.Author.Rules.{rules}
+use Prim.Native.Nat.{◌-◌}
 use lib.ListN.{length}
-use Rattle.model.specs.Form.{spaced_name}
-use Rattle.lexer.proofs.Answers.{name_missing, GotName, name_got}
-use Rattle.lines.proofs.Events.{filling, Naming, names_start, name_reach, names_more, names_past, names_end}
+use Rattle.lines.proofs.Events.{filling, Naming}
 use Rattle.lines.proofs.read_names.Given as goal
 
 abbrev pub invariant-loop-n : goal.invariant-loop-n

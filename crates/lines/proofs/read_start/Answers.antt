@@ -2,7 +2,6 @@
 use Prim.Native.Nat.{ℕ}
 use mathlib.Core.Path.{◌≡◌}
 use mathlib.Core.List.{List}
-use borrow.Author.Rules.{rules}
 use Rattle.model.specs.Bytes.{bytes}
 use Rattle.model.specs.Reading.{got, lit_bytes, figure}
 use Rattle.model.specs.Form.{start_given}

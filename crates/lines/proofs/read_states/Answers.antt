@@ -3,7 +3,6 @@ use Prim.Native.Nat.{ℕ}
 use mathlib.Core.Path.{◌≡◌}
 use mathlib.Core.List.{List}
 use mathlib.Core.Option.{none}
-use borrow.Author.Rules.{rules}
 use Rattle.model.specs.Bytes.{bytes}
 use Rattle.model.specs.Reading.{got, give, either, lit_bytes, figure}
 use Rattle.model.specs.Form.{start_given, states_line}

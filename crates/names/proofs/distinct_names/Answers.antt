@@ -1,6 +1,6 @@
 -- `names::distinct_names` meets its contract: the names passed are the first of their own. The laws are in `Lookup`.
-use Rattle.std.proofs.Common.{◌-◌, arith}
-use Rattle.names.proofs.Lookup.{Firsts, firsts_start, firsts_more, firsts_stop, firsts_end}
+use Rattle.std.proofs.Common.{arith}
+use Rattle.names.proofs.Lookup.{firsts_start, firsts_more, firsts_stop, firsts_end}
 use Rattle.names.proofs.distinct_names.Goals as goal
 
 pub loop-k-init : goal.loop-k-init

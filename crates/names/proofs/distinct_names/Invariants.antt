@@ -1,6 +1,6 @@
 -- `names::distinct_names` meets its contract: the names passed are the first of their own. The laws are in `Lookup`.
-use Rattle.std.proofs.Common.{◌-◌, arith}
-use Rattle.names.proofs.Lookup.{Firsts, firsts_start, firsts_more, firsts_stop, firsts_end}
+use Rattle.std.proofs.Common.{◌-◌}
+use Rattle.names.proofs.Lookup.{Firsts}
 use Rattle.names.proofs.distinct_names.Given as goal
 
 abbrev pub invariant-loop-k : goal.invariant-loop-k

@@ -1,5 +1,5 @@
 -- `names::fill_hints` meets its contract: each hint keeps the length.
-use Rattle.std.proofs.Common.{◌≡◌, ◌-◌, length, refl, ◌∙◌, arith, rules}
+use Rattle.std.proofs.Common.{refl, ◌∙◌, arith}
 use Rattle.names.proofs.fill_hints.Goals as goal
 
 pub loop-k-init : goal.loop-k-init

@@ -1,5 +1,5 @@
 -- `names::fill_hints` meets its contract: each hint keeps the length.
-use Rattle.std.proofs.Common.{◌≡◌, ◌-◌, length, refl, ◌∙◌, arith, rules}
+use Rattle.std.proofs.Common.{◌≡◌, ◌-◌, length}
 use Rattle.names.proofs.fill_hints.Given as goal
 
 abbrev pub invariant-loop-k : goal.invariant-loop-k

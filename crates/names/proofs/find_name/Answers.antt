@@ -1,7 +1,6 @@
 -- `names::find_name` meets its contract: the entries passed are others. The laws are in `Lookup`.
-use Rattle.std.proofs.Common.{◌-◌, arith}
-use Rattle.names.specs.Held.{Same}
-use Rattle.rows.proofs.Searches.{Upto, upto_start, upto_more}
+use Rattle.std.proofs.Common.{arith}
+use Rattle.rows.proofs.Searches.{upto_start, upto_more}
 use Rattle.names.proofs.Lookup.{finds}
 use Rattle.names.proofs.find_name.Goals.{then-low-k+then-high-k+else-len-k, then-low-k+else-high-k, else-low-k}
 use Rattle.names.proofs.find_name.Goals as goal
@@ -42,9 +41,9 @@ pub loop-k-preserved : goal.loop-k-preserved
 loop-k-preserved c =
     upto_more c.loop-k.invariant c.loop-k-test.true
     (λ s. elim c.if-low-k.branch [
-      then-low-k+then-high-k+else-len-k w ↦ w.if-len-k.false s.long
-    | then-low-k+else-high-k w ↦ w.if-high-k.false s.high
-    | else-low-k w ↦ w.if-low-k.false s.low
+      | then-low-k+then-high-k+else-len-k w ↦ w.if-len-k.false s.long
+      | then-low-k+else-high-k w ↦ w.if-high-k.false s.high
+      | else-low-k w ↦ w.if-low-k.false s.low
     ])
 
 pub returns : goal.returns

@@ -1,8 +1,7 @@
 -- `names::find_name` meets its contract: the entries passed are others. The laws are in `Lookup`.
-use Rattle.std.proofs.Common.{◌-◌, ⊎_elim, arith}
+use Rattle.std.proofs.Common.{◌-◌}
 use Rattle.names.specs.Held.{Same}
-use Rattle.rows.proofs.Searches.{Upto, upto_start, upto_more}
-use Rattle.names.proofs.Lookup.{finds}
+use Rattle.rows.proofs.Searches.{Upto}
 use Rattle.names.proofs.find_name.Given as goal
 
 abbrev pub invariant-loop-k : goal.invariant-loop-k

@@ -1,5 +1,4 @@
 -- `names::is_name_at` meets its contract: the three tests of an entry.
-use Rattle.std.proofs.Common.{rules}
 use Rattle.names.proofs.HeldNames.{same}
 use Rattle.names.proofs.is_name_at.Goals as goal
 

@@ -1,5 +1,4 @@
 -- `quick_move::is_framed` meets its contract: the tests by the law of `Moves`.
-use borrow.Author.Rules.{rules}
 use Rattle.quick_move.proofs.Moves.{framed}
 use Rattle.quick_move.proofs.is_framed.Goals as goal
 

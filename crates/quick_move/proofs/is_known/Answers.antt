@@ -1,5 +1,4 @@
 -- `quick_move::is_known` meets its contract: the tests by the law of `Moves`.
-use borrow.Author.Rules.{rules}
 use Rattle.quick_move.proofs.Moves.{known}
 use Rattle.quick_move.proofs.is_known.Goals as goal
 

@@ -1,5 +1,4 @@
 -- `quick_move::is_move` meets its contract: the number of the first four bytes tells them, and the others are compared.
-use borrow.Author.Rules.{rules}
 use Rattle.quick_move.proofs.Moves.{opening}
 use Rattle.quick_move.proofs.is_move.Goals as goal
 

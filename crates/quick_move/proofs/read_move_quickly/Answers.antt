@@ -1,5 +1,4 @@
 -- `quick_move::read_move_quickly` meets its contract: a text too short says nothing.
-use borrow.Author.Rules.{rules}
 use Rattle.quick_move.specs.Quick.{ReadsQuickly}
 use Rattle.quick_move.proofs.read_move_quickly.Goals as goal
 

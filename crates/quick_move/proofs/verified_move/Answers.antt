@@ -1,5 +1,4 @@
 -- `quick_move::verified_move` meets its contract: the tests by the law of `Moves`.
-use borrow.Author.Rules.{rules}
 use borrow.Author.Tests.{not-false}
 use Rattle.quick_move.specs.Quick.{ReadsQuickly}
 use Rattle.quick_move.proofs.Moves.{verified}

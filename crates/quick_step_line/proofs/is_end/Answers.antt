@@ -1,5 +1,4 @@
 -- `quick_step_line::is_end` meets its contract: the number of two bytes tells them.
-use Rattle.std.proofs.Common.{rules}
 use Rattle.quick_step_line.proofs.StepLines.{closing}
 use Rattle.quick_step_line.proofs.is_end.Goals as goal
 

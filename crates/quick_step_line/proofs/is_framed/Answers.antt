@@ -1,5 +1,4 @@
 -- `quick_step_line::is_framed` meets its contract: the tests by the law of `StepLines`.
-use Rattle.std.proofs.Common.{rules}
 use Rattle.quick_step_line.proofs.StepLines.{framed}
 use Rattle.quick_step_line.proofs.is_framed.Goals as goal
 

@@ -1,5 +1,4 @@
 -- `quick_step_line::is_step` meets its contract: the number of the first four bytes tells them, and the others are compared.
-use Rattle.std.proofs.Common.{rules}
 use Rattle.quick_step_line.proofs.StepLines.{opening}
 use Rattle.quick_step_line.proofs.is_step.Goals as goal
 

@@ -1,5 +1,4 @@
 -- `quick_step_line::read_step_quickly` meets its contract: a text too short says nothing.
-use Rattle.std.proofs.Common.{rules}
 use Rattle.quick_step_line.specs.Quick.{ReadsQuickly}
 use Rattle.quick_step_line.proofs.read_step_quickly.Goals as goal
 

@@ -1,5 +1,5 @@
 -- `quick_step_line::verified_step` meets its contract: the tests by the law of `StepLines`.
-use Rattle.std.proofs.Common.{arith, rules}
+use Rattle.std.proofs.Common.{arith}
 use Rattle.quick_step_line.specs.Quick.{ReadsQuickly}
 use Rattle.quick_step_line.proofs.StepLines.{verified}
 use Rattle.quick_step_line.proofs.verified_step.Goals as goal

@@ -1,5 +1,4 @@
 -- `quick_words::big_endian` meets its contract: the law of `Packing` on eight bytes.
-use Rattle.std.proofs.Common.{rules}
 use Rattle.quick_words.proofs.Packing.{eight}
 use Rattle.quick_words.proofs.big_endian.Goals as goal
 

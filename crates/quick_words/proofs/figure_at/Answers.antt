@@ -1,5 +1,5 @@
 -- `quick_words::figure_at` meets its contract: the bytes stand in the order in which they are read.
-use Rattle.std.proofs.Common.{refl, arith, rules}
+use Rattle.std.proofs.Common.{refl, arith}
 use Rattle.quick_words.proofs.Standing.{forwards}
 use Rattle.quick_words.proofs.figure_at.Goals as goal
 

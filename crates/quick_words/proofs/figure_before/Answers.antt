@@ -1,5 +1,5 @@
 -- `quick_words::figure_before` meets its contract: the bytes stand from the last on.
-use Rattle.std.proofs.Common.{refl, rules}
+use Rattle.std.proofs.Common.{refl}
 use Rattle.quick_words.proofs.Standing.{backwards}
 use Rattle.quick_words.proofs.figure_before.Goals as goal
 

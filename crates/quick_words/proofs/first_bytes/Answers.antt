@@ -1,5 +1,5 @@
 -- `quick_words::first_bytes` meets its contract: two shifts are one by their sum.
-use Rattle.std.proofs.Common.{◌≡◌, ℕ, ◌+◌, ◌-◌, ◌*◌, ◌/◌, ◌^◌, ap, ◌∙◌, arith, shr-shr, rules}
+use Rattle.std.proofs.Common.{◌≡◌, ℕ, ◌+◌, ◌-◌, ◌*◌, ◌/◌, ◌^◌, ap, ◌∙◌, arith, shr-shr}
 use Rattle.quick_words.proofs.first_bytes.Goals as goal
 
 pub returns : goal.returns

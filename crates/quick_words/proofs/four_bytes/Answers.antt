@@ -1,5 +1,4 @@
 -- `quick_words::four_bytes` meets its contract: the law of `Packing` on four bytes.
-use Rattle.std.proofs.Common.{rules}
 use Rattle.quick_words.proofs.Packing.{four}
 use Rattle.quick_words.proofs.four_bytes.Goals as goal
 

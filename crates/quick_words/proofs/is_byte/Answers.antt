@@ -1,5 +1,4 @@
 -- `quick_words::is_byte` meets its contract: the byte is compared.
-use Rattle.std.proofs.Common.{rules}
 use Rattle.quick_words.proofs.Standing.{equal}
 use Rattle.quick_words.proofs.is_byte.Goals as goal
 

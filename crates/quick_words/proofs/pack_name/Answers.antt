@@ -1,5 +1,4 @@
 -- `quick_words::pack_name` meets its contract: the law of `Packing` on two words.
-use Rattle.std.proofs.Common.{rules}
 use Rattle.quick_words.proofs.Packing.{packs}
 use Rattle.quick_words.proofs.pack_name.Goals as goal
 

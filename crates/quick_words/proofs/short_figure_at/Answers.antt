@@ -1,5 +1,5 @@
 -- `quick_words::short_figure_at` meets its contract: the bytes stand in the order in which they are read, and a third is no digit.
-use Rattle.std.proofs.Common.{◌≡◌, ℕ, true, refl, arith, rules}
+use Rattle.std.proofs.Common.{◌≡◌, ℕ, true, refl, arith}
 use Rattle.model.specs.Bytes.{is_digit}
 use Rattle.quick_words.proofs.Standing.{forwards}
 use Rattle.quick_words.proofs.short_figure_at.Goals as goal

@@ -1,5 +1,4 @@
 -- `quick_words::sized_figure` meets its contract: each size is a case of the tests.
-use Rattle.std.proofs.Common.{rules}
 use Rattle.quick_words.proofs.Standing.{sized}
 use Rattle.quick_words.proofs.sized_figure.Goals as goal
 

@@ -5,4 +5,4 @@ use Rattle.reader.proofs.no_counts.Goals as goal
 
 pub returns : goal.returns
 unfolding verdict_refusal no_counts
-returns c = record { verdict_value = refl; counts_value = refl; }
+returns c = record { verdict_value = refl; counts_value = refl }

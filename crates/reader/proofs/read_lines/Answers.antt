@@ -1,7 +1,6 @@
 -- `reader::read_lines` meets its contract: the promise of the step lines, then that of the machine lines.
 use Prim.Native.Nat.{◌≤◌}
 use native.Mathlib.Omega.{arith}
-use borrow.Author.Rules.{rules}
 use Rattle.reader.specs.Sections.{count_of, StepsRead, ReadsSteps, ReadsMachines, ReadsLines}
 use Rattle.reader.proofs.step_lines.StepSection.{steps_found}
 use Rattle.reader.proofs.machine_lines.MachineSection.{machines_found, machines_refused}

@@ -1,7 +1,6 @@
 -- `reader::read_rows` meets its contract: the promise of the first two lines, then that of the others.
 use native.Mathlib.Omega.{arith}
 use lib.ListN.{replicate}
-use borrow.Author.Rules.{rules}
 use Rattle.lines.specs.Lines.{EventRows, event_rows}
 use Rattle.reader.specs.Sections.{FirstFound, FirstRead, transition_rows, machine_rows, ReadsLines}
 use Rattle.reader.proofs.Phases.{first_read}
@@ -24,14 +23,14 @@ pub read_lines-requires : goal.read_lines-requires
 read_lines-requires c =
     let e = (first (goal.at.read_lines-requires c).In-Read).found in
     let f = c.requires in
-    record { states_bound = ((first (goal.at.read_lines-requires c).In-Read).few, omega (arith, e.held.rows.counted, e.held.rows.most), record { names = e.names; held = e.held }); target_value = (λ i. transition_rows (f.fresh_source i) (f.fresh_event i) (f.fresh_target i), λ i. machine_rows (f.fresh_sizes i) (f.fresh_duplicate i) (f.fresh_place i)); }
+    record { states_bound = ((first (goal.at.read_lines-requires c).In-Read).few, omega (arith, e.held.rows.counted, e.held.rows.most), record { names = e.names; held = e.held }); target_value = (λ i. transition_rows (f.fresh_source i) (f.fresh_event i) (f.fresh_target i), λ i. machine_rows (f.fresh_sizes i) (f.fresh_duplicate i) (f.fresh_place i)) }
 
 pub returns-in-Refused : goal.returns-in-Refused
 unfolding FirstRead
 returns-in-Refused c =
     let all = answering_rows _
     (rows_refused (rw c.in-Refused.is at c.read_first_lines.ensures) c.no_counts.ensures.verdict_value c.no_counts.ensures.counts_value) in
-    record { verdict_value = all.0; reads_rows = all.1; }
+    record { verdict_value = all.0; reads_rows = all.1 }
 
 pub returns-in-Read : goal.returns-in-Read
 unfolding ReadsLines
@@ -39,4 +38,4 @@ returns-in-Read c =
     let f = first (goal.at.returns-in-Read c).In-Read in
     let e = f.found in
     let all = answering_rows _ (c.read_lines.ensures f.start e.names _ _ f.initial e.held e.placed e.rest) in
-    record { verdict_value = all.0; reads_rows = all.1; }
+    record { verdict_value = all.0; reads_rows = all.1 }

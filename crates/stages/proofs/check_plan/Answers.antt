@@ -1,5 +1,4 @@
 -- `stages::check_plan` meets its contract: its tables are the rows that are lent.
-use borrow.Author.Rules.{rules}
 use Rattle.stages.proofs.Stages.{fresh_rows}
 use Rattle.stages.proofs.check_plan.Goals as goal
 

@@ -1,5 +1,4 @@
 -- `stages::read_as_far_as_10` meets its contract: both answers are laws of `Stages` at what the calls have said.
-use borrow.Author.Rules.{rules}
 use Rattle.stages.proofs.Stages.{rows_held, rows_bounded, refused_to_3_10, judged_10}
 use Rattle.stages.proofs.read_as_far_as_10.Goals as goal
 
@@ -13,7 +12,7 @@ pub check_as_far_as_10-verdict-requires : goal.check_as_far_as_10-verdict-requir
 check_as_far_as_10-verdict-requires c =
     let fresh = c.requires.fresh in
     let held = rows_held c.read_rows-read.ensures.verdict_value c.in_default.is c.read_rows-read.ensures.reads_rows in
-    record { bounded = rows_bounded held.bounds; checked_sizes = (held.sized.checked, fresh); }
+    record { bounded = rows_bounded held.bounds; checked_sizes = (held.sized.checked, fresh) }
 
 pub returns : goal.returns
 returns c =

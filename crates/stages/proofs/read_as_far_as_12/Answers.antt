@@ -1,5 +1,4 @@
 -- `stages::read_as_far_as_12` meets its contract: both answers are laws of `Stages` at what the calls have said.
-use borrow.Author.Rules.{rules}
 use Rattle.rows.specs.Tables.{tables_in}
 use Rattle.stages.specs.Stages.{Past10}
 use Rattle.stages.proofs.Stages.{past_text_10, refused_to_10, counts_bounded, judged_12}

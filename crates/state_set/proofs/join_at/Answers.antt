@@ -1,5 +1,4 @@
 -- `join_at` joins word by word.
-use borrow.Author.Rules.{rules}
 use Rattle.state_set.proofs.Rows.{joined}
 use Rattle.state_set.proofs.join_at.Goals as goal
 

@@ -1,5 +1,4 @@
 -- `join_word` changes the word, or has nothing to add.
-use borrow.Author.Rules.{rules}
 use Rattle.state_set.proofs.Rows.{word_joined, word_empty}
 use Rattle.state_set.proofs.join_word.Goals as goal
 

@@ -1,7 +1,6 @@
 -- `store` writes the four words of the set.
 use native.Mathlib.Omega.{arith}
 use lib.ListN.{length-set}
-use borrow.Author.Rules.{rules}
 use Rattle.state_set.proofs.Rows.{stored}
 use Rattle.state_set.proofs.store.Goals as goal
 

@@ -1,6 +1,5 @@
 -- `transition_system::add_transition` meets its contract. Each way out is a law of `Adding`.
 use mathlib.Core.Path.{◌≡◌}
-use borrow.Author.Rules.{rules}
 use lib.ListN.{get_or}
 use Rattle.state_set.specs.Rows.{member_at}
 use Rattle.transition_system.proofs.Adding.{tested, stands, forks, enters}
@@ -16,15 +15,15 @@ excites c = tested _ _ c.wide.ensures.0 c.contains_at.ensures
 pub returns-then-s-t : goal.returns-then-s-t
 returns-then-s-t c =
     let all = stands c.requires.in_rows c.if-s-t.true in
-    record { result_value = all.0; sets_of_2 = all.1; }
+    record { result_value = all.0; sets_of_2 = all.1 }
 
 pub returns-then-contains_at : goal.returns-then-contains_at
 returns-then-contains_at c =
     let all = forks c.requires.in_rows c.requires.sets_of c.if-s-t.false (excites (goal.at.returns-then-contains_at c).After-contains_at) c.if-contains_at.true (c.first_leading-earlier.ensures.0 _) in
-    record { result_value = all.0; sets_of_2 = all.1; }
+    record { result_value = all.0; sets_of_2 = all.1 }
 
 pub returns : goal.returns
 returns c =
     let all = enters c.requires.in_rows c.requires.sets_of c.if-s-t.false (excites (goal.at.returns c).After-contains_at) c.if-contains_at.false c.wide-2.ensures.0 c.insert.ensures
     c.wide-3.ensures.0 c.insert-2.ensures in
-    record { result_value = all.0; sets_of_2 = all.1; }
+    record { result_value = all.0; sets_of_2 = all.1 }

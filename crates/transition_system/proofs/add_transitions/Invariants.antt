@@ -1,9 +1,7 @@
 -- `transition_system::add_transitions` meets its contract. The laws are in `Scanning`.
 use Prim.Native.Nat.{◌-◌}
-use mathlib.Core.Path.{refl}
 use lib.ListN.{length}
-use borrow.Author.Rules.{rules}
-use Rattle.transition_system.proofs.Scanning.{SoFar, scan_start, scan_end, in_rows, scan_stop, scan_more}
+use Rattle.transition_system.proofs.Scanning.{SoFar}
 use Rattle.transition_system.proofs.add_transitions.Given as goal
 
 abbrev pub invariant-loop-k : goal.invariant-loop-k

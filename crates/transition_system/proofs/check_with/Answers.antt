@@ -1,7 +1,6 @@
 -- `transition_system::check_with` meets its contract. Each way out is a law of `Verdicts`.
 use native.Mathlib.Omega.{arith}
 use Rattle.transition_system.proofs.Verdicts.{fork_refuses, closed, event_refuses, state_refuses, all_pass}
-use borrow.Author.Rules.{rules}
 use Rattle.transition_system.proofs.check_with.Goals as goal
 
 pub add_transitions-forks-requires : goal.add_transitions-forks-requires
@@ -24,13 +23,13 @@ add_transitions-forks-requires c =
 pub returns-in-Refused : goal.returns-in-Refused
 returns-in-Refused c =
     let all = fork_refuses c.requires.bounded.0 c.add_transitions-forks.ensures.result_value c.add_transitions-forks.ensures.sets_of_2 c.in-Refused.is in
-    record { result_value = all.0; excitations = all.1; }
+    record { result_value = all.0; excitations = all.1 }
 
 pub returns-then-unused-events : goal.returns-then-unused-events
 returns-then-unused-events c =
     let all = event_refuses c.requires.bounded.0 c.add_transitions-forks.ensures.result_value c.add_transitions-forks.ensures.sets_of_2 c.in_default.is
     c.unused_event-unused.ensures c.if-unused-events.true in
-    record { result_value = all.0; excitations = all.1; }
+    record { result_value = all.0; excitations = all.1 }
 
 pub unreached_state-state-requires : goal.unreached_state-state-requires
 unreached_state-state-requires c =
@@ -46,10 +45,10 @@ pub returns-then-state-states : goal.returns-then-state-states
 returns-then-state-states c =
     let all = state_refuses c.requires.bounded.0 c.add_transitions-forks.ensures.result_value c.add_transitions-forks.ensures.sets_of_2 c.in_default.is
     c.unused_event-unused.ensures c.if-unused-events.false c.narrow.ensures c.unreached_state-state.ensures c.if-state-states.true in
-    record { result_value = all.0; excitations = all.1; }
+    record { result_value = all.0; excitations = all.1 }
 
 pub returns : goal.returns
 returns c =
     let all = all_pass c.requires.bounded.0 c.add_transitions-forks.ensures.result_value c.add_transitions-forks.ensures.sets_of_2 c.in_default.is
     c.unused_event-unused.ensures c.if-unused-events.false c.narrow.ensures c.unreached_state-state.ensures c.if-state-states.false in
-    record { result_value = all.0; excitations = all.1; }
+    record { result_value = all.0; excitations = all.1 }

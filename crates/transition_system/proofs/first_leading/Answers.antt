@@ -1,8 +1,7 @@
 -- `transition_system::first_leading` meets its contract: the transitions passed lead elsewhere. The laws are in `Leading`.
-use Prim.Native.Nat.{◌-◌}
 use native.Mathlib.Omega.{arith}
-use Rattle.rows.proofs.Searches.{Upto, upto_start, upto_more}
-use Rattle.transition_system.proofs.Leading.{LeadsAt, leading}
+use Rattle.rows.proofs.Searches.{upto_start, upto_more}
+use Rattle.transition_system.proofs.Leading.{leading}
 use Rattle.transition_system.proofs.first_leading.Goals.{then-source-k+else-event-k, else-source-k}
 use Rattle.transition_system.proofs.first_leading.Goals as goal
 

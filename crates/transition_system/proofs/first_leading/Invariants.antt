@@ -1,9 +1,7 @@
 -- `transition_system::first_leading` meets its contract: the transitions passed lead elsewhere. The laws are in `Leading`.
 use Prim.Native.Nat.{◌-◌}
-use native.Mathlib.Omega.{arith}
-use mathlib.Core.Logic.{⊎_elim}
-use Rattle.rows.proofs.Searches.{Upto, upto_start, upto_more}
-use Rattle.transition_system.proofs.Leading.{LeadsAt, leading}
+use Rattle.rows.proofs.Searches.{Upto}
+use Rattle.transition_system.proofs.Leading.{LeadsAt}
 use Rattle.transition_system.proofs.first_leading.Given as goal
 
 abbrev pub invariant-loop-k : goal.invariant-loop-k

@@ -3,7 +3,6 @@ use Prim.Native.Nat.{ℕ}
 use mathlib.Core.Path.{◌≡◌, sym, ap, ◌∙◌}
 use mathlib.Core.Option.{Option}
 use native.Mathlib.Omega.{arith}
-use borrow.Author.Rules.{rules}
 use Rattle.model.specs.TransitionSystem.{TransitionSystem, and_then, unreachable_state}
 use Rattle.model.proofs.Bounds.{Within}
 use Rattle.rows.specs.Told.{below}

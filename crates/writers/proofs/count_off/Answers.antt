@@ -1,7 +1,5 @@
 -- `writers::count_off` meets its contract: what was subtracted and what is left make up the number.
-use Prim.Native.Nat.{◌+◌, ◌*◌, ◌≤◌}
 use native.Mathlib.Omega.{arith}
-use mathlib.Core.Path.{◌≡◌}
 use Rattle.writers.proofs.Figures.{counted_more}
 use Rattle.writers.proofs.count_off.Goals as goal
 

@@ -1,8 +1,6 @@
 -- `writers::count_off` meets its contract: what was subtracted and what is left make up the number.
 use Prim.Native.Nat.{◌+◌, ◌*◌, ◌≤◌}
-use native.Mathlib.Omega.{arith}
 use mathlib.Core.Path.{◌≡◌}
-use Rattle.writers.proofs.Figures.{counted_more}
 use Rattle.writers.proofs.count_off.Given as goal
 
 abbrev pub invariant-loop-rest : goal.invariant-loop-rest

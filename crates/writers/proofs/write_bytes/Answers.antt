@@ -1,9 +1,6 @@
 -- `writers::write_bytes` meets its contract: the bytes passed are written. The laws are in `Writing`.
-use Prim.Native.Nat.{◌-◌}
 use native.Mathlib.Omega.{arith}
-use borrow.Author.Rules.{rules}
-use lib.ListN.{length}
-use Rattle.writers.proofs.Writing.{writes_length, Begun, begun_none, begun_more, begun_end}
+use Rattle.writers.proofs.Writing.{writes_length, begun_none, begun_more, begun_end}
 use Rattle.writers.proofs.write_bytes.Goals as goal
 
 pub loop-i-init : goal.loop-i-init

@@ -1,9 +1,7 @@
 -- `writers::write_bytes` meets its contract: the bytes passed are written. The laws are in `Writing`.
 use Prim.Native.Nat.{◌-◌}
-use native.Mathlib.Omega.{arith}
-use borrow.Author.Rules.{rules}
 use lib.ListN.{length}
-use Rattle.writers.proofs.Writing.{writes_length, Begun, begun_none, begun_more, begun_end}
+use Rattle.writers.proofs.Writing.{Begun}
 use Rattle.writers.proofs.write_bytes.Given as goal
 
 abbrev pub invariant-loop-i : goal.invariant-loop-i

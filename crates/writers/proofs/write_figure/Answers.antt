@@ -1,6 +1,5 @@
 -- `writers::write_figure` meets its contract: three digits are stored, of which the last ones stay. The law is in `Figures`.
 use native.Mathlib.Omega.{arith}
-use borrow.Author.Rules.{rules}
 use lib.ListN.{length-set}
 use Rattle.writers.proofs.Figures.{figure_stored}
 use Rattle.writers.proofs.write_figure.Goals as goal

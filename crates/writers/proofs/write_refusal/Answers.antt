@@ -1,6 +1,5 @@
 -- `writers::write_refusal` meets its contract: seven words, one after another.
 use native.Mathlib.Omega.{arith}
-use borrow.Author.Rules.{rules}
 use Rattle.model.specs.Services.{written_refusal}
 use Rattle.writers.proofs.Writing.{writes_append}
 use Rattle.writers.proofs.Refusals.{length_refusal}

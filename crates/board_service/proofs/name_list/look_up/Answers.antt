@@ -1,6 +1,5 @@
 -- `board_service::name_list::look_up` meets its contract: the laws are in `Looking`.
 use Rattle.board_service.proofs.Looking.{looks_hinted, looks_found}
-use borrow.Author.Rules.{rules}
 use Rattle.board_service.proofs.name_list.look_up.Goals as goal
 
 pub returns-then-is_name_at : goal.returns-then-is_name_at

@@ -1,6 +1,5 @@
 -- `board_service::name_list::next_name` meets its contract: the law is in `Looking`.
 use Rattle.board_service.proofs.Looking.{quick_known}
-use borrow.Author.Rules.{rules}
 use Rattle.board_service.proofs.name_list.next_name.Goals as goal
 
 pub returns : goal.returns

@@ -4,7 +4,6 @@ use Rattle.model.specs.Bytes.{bytes}
 use Rattle.model.specs.Reading.{got, lit_bytes, name}
 use Rattle.lexer.proofs.Answers.{GotName, name_missing, name_got, literal_missing, literal_got}
 use Rattle.board_service.proofs.Looking.{reads_missing, reads_open, reads_unknown, reads_known}
-use borrow.Author.Rules.{rules}
 use Rattle.board_service.proofs.name_list.read_words.Goals.{In-Found, In-Found-read_literal}
 use Rattle.board_service.proofs.name_list.read_words.Goals as goal
 

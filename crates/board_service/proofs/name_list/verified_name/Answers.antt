@@ -1,7 +1,6 @@
 -- `board_service::name_list::verified_name` meets its contract: the law is in `Looking`.
 use Rattle.board_service.specs.Listed.{NameGuessed}
 use Rattle.board_service.proofs.Looking.{verified}
-use borrow.Author.Rules.{rules}
 use Rattle.board_service.proofs.name_list.verified_name.Goals as goal
 
 pub returns-then-is_byte-named : goal.returns-then-is_byte-named

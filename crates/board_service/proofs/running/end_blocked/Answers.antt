@@ -1,5 +1,4 @@
 -- `board_service::running::end_blocked` meets its contract: the laws are in `Going`.
-use borrow.Author.Rules.{rules}
 use Rattle.board_service.proofs.Going.{blocked_odd, blocked_fine}
 use Rattle.board_service.proofs.running.end_blocked.Goals as goal
 

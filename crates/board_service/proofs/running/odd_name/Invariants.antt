@@ -1,9 +1,7 @@
 -- `board_service::running::odd_name` meets its contract: the loop keeps `Seeking`.
 use Prim.Native.Nat.{◌-◌}
-use native.Mathlib.Omega.{arith}
-use borrow.Author.Rules.{rules}
 use lib.ListN.{length}
-use Rattle.board_service.proofs.Seeking.{Seeking, seeking_start, seeking_odd, seeking_on, seeking_more, seeking_end}
+use Rattle.board_service.proofs.Seeking.{Seeking}
 use Rattle.board_service.proofs.running.odd_name.Given as goal
 
 abbrev pub invariant-loop-i : goal.invariant-loop-i

@@ -1,12 +1,8 @@
 -- `board_service::running::run_names` meets its contract: the loop keeps `Going`.
 use Prim.Native.Nat.{◌-◌}
-use native.Mathlib.Omega.{arith}
-use borrow.Author.Rules.{rules}
-use borrow.Author.Tests.{not-true, not-false}
 use lib.ListN.{length}
 use Rattle.sheet_reader.specs.Lent.{lent_rows}
-use Rattle.product.proofs.Moving.{lane_end, lane_stops, lane_blocked}
-use Rattle.board_service.proofs.Going.{Going, going_start, going_odd, going_end, going_low, going_on, going_more, going_blocked}
+use Rattle.board_service.proofs.Going.{Going}
 use Rattle.board_service.proofs.running.run_names.Given as goal
 
 abbrev pub invariant-loop-i : goal.invariant-loop-i

@@ -1,6 +1,5 @@
 -- `lines::mark` meets its contract: each way out is a case of `marked`.
 use mathlib.Core.Path.{sym}
-use borrow.Author.Rules.{rules}
 use Rattle.lines.proofs.marks.Marked.{marked_out, marked_fresh, marked_lower, marked_same}
 use Rattle.lines.proofs.marks.mark.Goals as goal
 

@@ -2,7 +2,6 @@
 use Prim.Native.Nat.{ℕ}
 use mathlib.Core.Path.{◌≡◌, ◌∙◌}
 use mathlib.Core.List.{List, ◌∷◌}
-use borrow.Author.Rules.{rules}
 use Rattle.model.specs.Bytes.{bytes}
 use Rattle.model.specs.Reading.{fail, got, lit_bytes, figure, many}
 use Rattle.model.specs.Form.{spaced_figure}
@@ -15,6 +14,7 @@ use Rattle.lines.proofs.marks.mark_place.Goals as goal
 bare : (s : List ℕ) (at : ℕ) → figure s at ≡ fail → opened s at ≡ fail
 unfolding opened
 bare s at e = rw e
+
 -- the figures of a place are read and marked, to the position `end`
 record Listed (n p : ℕ) (m : Marking) (s : List ℕ) (at end : ℕ) (marks : Marks) (row : List ℕ) : Type 0 where
   first : ℕ
@@ -22,10 +22,12 @@ record Listed (n p : ℕ) (m : Marking) (s : List ℕ) (at end : ℕ) (marks : M
   read : figure s at ≡ got first from
   ends : end ≡ (many spaced_figure s from).1
   rows : marking marks row ≡ marked_all n p m (first ∷ (many spaced_figure s from).0)
+
 module _ {n p : ℕ} {m : Marking} {s : List ℕ} {at end : ℕ} {marks : Marks} {row : List ℕ} (l : Listed n p m s at end marks row) where
   unclosed : lit_bytes (bytes ")") s end ≡ fail → opened s at ≡ fail
   unfolding opened
   unclosed e = rw (l.read, ← l.ends, e)
+
   closed : {next : ℕ} → lit_bytes (bytes ")") s end ≡ got tt next → PlaceFound n p m (opened s at) marks next row
   unfolding opened
   closed e = record { place = l.first ∷ (many spaced_figure s l.from).0; read = rw (l.read, ← l.ends, e); rows = l.rows }

@@ -1,10 +1,9 @@
 -- `lines::mark_places` meets its contract: a loop over places, each of which is marked by its number.
-use Prim.Native.Nat.{ℕ, suc, ◌+◌, ◌-◌, ◌<◌, ◌≤◌}
+use Prim.Native.Nat.{ℕ, suc, ◌+◌, ◌<◌, ◌≤◌}
 use native.Mathlib.Omega.{arith}
 use native.Mathlib.Numerals.{add-one}
 use mathlib.Core.Path.{◌≡◌, ap, ◌∙◌}
 use mathlib.Core.List.{List}
-use borrow.Author.Rules.{rules}
 use lib.ListN.{length}
 use Rattle.model.specs.Machine.{Place}
 use Rattle.model.specs.Reading.{Parsed, fail, got, many}
@@ -29,6 +28,7 @@ found : (n p : ℕ) (m : Marking) (o : Parsed Place) {r : PlaceAt} {marks : Mark
     → PlaceFound n p m o marks next row
 unfolding PlaceRead
 found n p m o row h e = rw e at h
+
 -- a turn: the place at i is marked by its number k
 record Turn (n k : ℕ) (m m' : Marking) (s : List ℕ) (i next : ℕ) : Type 0 where
   listed : Place
@@ -39,9 +39,11 @@ turned : {n p k : ℕ} {m : Marking} {s : List ℕ} {i a next : ℕ} {marks : Ma
     → PlaceFound n p m (opened s a) marks next row → p ≡ up_to64 k → Turn n k m (marking marks row) s i next
 turned {n} {m = m} b f e =
     record { listed = f.place; read = place_opened b ∙ f.read; rows = f.rows ∙ ap (λ (p : ℕ). marked_all n p m f.place) e }
+
 module _ {n k : ℕ} {m m' : Marking} {s : List ℕ} {i next : ℕ} (t : Turn n k m m' s i next) where
   moved : (i < next) × (next ≤ length s)
   moved = moves_place.on s i t.listed next t.read
+
   again : {r : Marking × ℕ × ℕ} → Items place (end n) s r (m, k) i → Items place (end n) s r (m', k + 1) next
   unfolding marked_places
   again inv =

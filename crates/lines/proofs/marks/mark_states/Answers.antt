@@ -1,17 +1,13 @@
 -- `lines::mark_states` meets its contract: a loop over spaced figures, each of which is marked.
-use Prim.Native.Nat.{ℕ, ◌-◌}
+use Prim.Native.Nat.{ℕ}
 use native.Mathlib.Omega.{arith}
 use mathlib.Core.Path.{◌≡◌, ap}
-use mathlib.Core.List.{List}
-use borrow.Author.Rules.{rules}
-use lib.ListN.{length}
-use Rattle.model.specs.Reading.{got, many}
+use Rattle.model.specs.Reading.{got}
 use Rattle.model.specs.Form.{spaced_figure}
 use Rattle.lexer.proofs.Answers.{figure_missing, figure_got}
-use Rattle.lexer.proofs.Loops.{Items, items_none, items_more, items_end}
+use Rattle.lexer.proofs.Loops.{items_none, items_more, items_end}
 use Rattle.lexer.proofs.Moves.{moves_spaced_figure}
-use Rattle.lines.specs.Marking.{Marking, marking, marked_all}
-use Rattle.lines.proofs.marks.mark_states.Invariants.{end}
+use Rattle.lines.specs.Marking.{Marking, marked_all}
 use Rattle.lines.proofs.marks.mark_states.Goals.{In-Found}
 use Rattle.lines.proofs.marks.mark_states.Goals as goal
 
@@ -29,7 +25,7 @@ unfolding marked_all
 returns-in_default c =
     let e = items_end c.loop-value.invariant
     (figure_missing _ c.read_spaced_figure.ensures c.in_default.is) in
-    record { next_value = ap (λ (r : Marking × ℕ). r.1) e; row_after = ap (λ (r : Marking × ℕ). r.0) e; }
+    record { next_value = ap (λ (r : Marking × ℕ). r.1) e; row_after = ap (λ (r : Marking × ℕ). r.0) e }
 
 pub loop-value-smaller : goal.loop-value-smaller
 loop-value-smaller c = omega (arith, moves_spaced_figure.on _ _ _ _ (item (goal.at.loop-value-smaller c).In-Found))

@@ -1,15 +1,10 @@
 -- `lines::mark_states` meets its contract: a loop over spaced figures, each of which is marked.
 use Prim.Native.Nat.{ℕ, ◌-◌}
-use native.Mathlib.Omega.{arith}
-use mathlib.Core.Path.{◌≡◌, ap}
 use mathlib.Core.List.{List}
-use borrow.Author.Rules.{rules}
 use lib.ListN.{length}
-use Rattle.model.specs.Reading.{got, many}
+use Rattle.model.specs.Reading.{many}
 use Rattle.model.specs.Form.{spaced_figure}
-use Rattle.lexer.proofs.Answers.{figure_missing, figure_got}
-use Rattle.lexer.proofs.Loops.{Items, items_none, items_more, items_end}
-use Rattle.lexer.proofs.Moves.{moves_spaced_figure}
+use Rattle.lexer.proofs.Loops.{Items}
 use Rattle.lines.specs.Marking.{Marking, marking, marked_all}
 use Rattle.lines.proofs.marks.mark_states.Given as goal
 

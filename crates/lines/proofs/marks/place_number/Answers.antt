@@ -1,6 +1,5 @@
 -- `lines::place_number` meets its contract.
 use mathlib.Core.Path.{sym}
-use borrow.Author.Rules.{rules}
 use Rattle.lines.proofs.marks.Marked.{own_number, past_number}
 use Rattle.lines.proofs.marks.place_number.Goals as goal
 

@@ -1,7 +1,6 @@
 -- `reader::declared_events` meets its contract. Each way out is a law of `Phases`.
 use native.Mathlib.Omega.{arith}
 use mathlib.Core.Path.{◌≡◌, sym, ◌∙◌}
-use borrow.Author.Rules.{rules}
 use borrow.Author.Tests.{not-true, not-false}
 use Rattle.model.specs.Cases.{tabled}
 use Rattle.model.specs.Form.{events_line}

@@ -5,7 +5,6 @@ use mathlib.Core.Bool.{true, ◌&&◌, and-eq-true_iff}
 use mathlib.Core.List.{List}
 use lib.Dec.{leb}
 use lib.ListN.{length}
-use borrow.Author.Rules.{rules}
 use borrow.Author.Tests.{not-true, not-false, leb-true}
 use Rattle.model.specs.Cases.{tabled}
 use Rattle.model.specs.Form.{states_line}

@@ -1,7 +1,6 @@
 -- `reader::read_first_lines` meets its contract: the promise of the states line, then that of the events line.
 use Prim.Native.Nat.{ℕ}
 use mathlib.Core.List.{List}
-use borrow.Author.Rules.{rules}
 use Rattle.reader.specs.Sections.{StatesFound, ReadsEvents, FirstRead}
 use Rattle.reader.proofs.Phases.{states_found, states_refused, events_found, events_refused, first_found}
 use Rattle.reader.proofs.first_lines.read_first_lines.Goals.{In-Read}

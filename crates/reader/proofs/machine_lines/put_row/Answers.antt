@@ -1,7 +1,6 @@
 -- `reader::put_row` meets its contract: the entries passed are stored. The laws are in `Stores`.
-use Prim.Native.Nat.{◌-◌}
 use native.Mathlib.Omega.{arith}
-use Rattle.reader.proofs.Stores.{Put, put_start, put_more, put_end}
+use Rattle.reader.proofs.Stores.{put_start, put_more, put_end}
 use Rattle.reader.proofs.machine_lines.put_row.Goals as goal
 
 pub overflow_mul-from : goal.overflow_mul-from

@@ -1,11 +1,8 @@
 -- `reader::read_transitions` meets its contract. The invariant: the step lines so far are read into the rows, and the rest comes to the same.
-use Prim.Native.Nat.{◌-◌}
 use native.Mathlib.Omega.{arith}
-use borrow.Author.Rules.{rules}
-use lib.ListN.{length}
-use Rattle.reader.specs.Sections.{transition_rows, StepFound, StepRead}
+use Rattle.reader.specs.Sections.{StepFound, StepRead}
 use Rattle.reader.proofs.Rest.{step_moves}
-use Rattle.reader.proofs.step_lines.StepSection.{SoFar, steps_start, step_found, section_end, section_stop, section_more}
+use Rattle.reader.proofs.step_lines.StepSection.{steps_start, step_found, section_end, section_stop, section_more}
 use Rattle.reader.proofs.step_lines.read_transitions.Goals.{In-Found}
 use Rattle.reader.proofs.step_lines.read_transitions.Goals as goal
 
@@ -24,13 +21,13 @@ pub returns-in-Missing : goal.returns-in-Missing
 unfolding StepRead
 returns-in-Missing c =
     let all = section_end c.loop-why.invariant (rw c.in-Missing.is at c.step_at.ensures) in
-    record { result_bound = all.0; reads_steps = all.1; }
+    record { result_bound = all.0; reads_steps = all.1 }
 
 pub returns-in-Refused : goal.returns-in-Refused
 unfolding StepRead
 returns-in-Refused c =
     let all = section_stop c.loop-why.invariant (rw c.in-Refused.is at c.step_at.ensures) in
-    record { result_bound = all.0; reads_steps = all.1; }
+    record { result_bound = all.0; reads_steps = all.1 }
 
 pub narrow-requires : goal.narrow-requires
 narrow-requires c = let f = found c in omega (arith, c.loop-why.invariant.states)

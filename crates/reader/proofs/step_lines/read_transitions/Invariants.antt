@@ -1,11 +1,8 @@
 -- `reader::read_transitions` meets its contract. The invariant: the step lines so far are read into the rows, and the rest comes to the same.
 use Prim.Native.Nat.{◌-◌}
-use native.Mathlib.Omega.{arith}
-use borrow.Author.Rules.{rules}
 use lib.ListN.{length}
-use Rattle.reader.specs.Sections.{transition_rows, StepFound, StepRead}
-use Rattle.reader.proofs.Rest.{step_moves}
-use Rattle.reader.proofs.step_lines.StepSection.{SoFar, steps_start, step_found, section_end, section_stop, section_more}
+use Rattle.reader.specs.Sections.{transition_rows}
+use Rattle.reader.proofs.step_lines.StepSection.{SoFar}
 use Rattle.reader.proofs.step_lines.read_transitions.Given as goal
 
 abbrev pub invariant-loop-why : goal.invariant-loop-why

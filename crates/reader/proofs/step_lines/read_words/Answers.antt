@@ -1,6 +1,5 @@
 -- `reader::read_words` meets its contract. Each way out is a law of `StepSection`.
 use mathlib.Core.Path.{sym, ◌∙◌}
-use borrow.Author.Rules.{rules}
 use borrow.Author.Tests.{not-true, not-false}
 use Rattle.model.specs.Form.{step_line}
 use Rattle.lines.specs.declared.StepWords.{StepWords}

@@ -1,5 +1,4 @@
 -- `reader::step_at` meets its contract: what is read quickly is the line, by the laws of `StepSection`.
-use borrow.Author.Rules.{rules}
 use Rattle.quick_step_line.specs.Quick.{ReadsStep, ReadsQuickly}
 use Rattle.reader.specs.Sections.{StepRead}
 use Rattle.reader.proofs.step_lines.StepSection.{quick_limit, step_quick}

@@ -1,7 +1,6 @@
 -- `sheet_reader::machine_line::read_line` meets its contract: one law for each way out. The laws are in `Lining`.
 use mathlib.Core.Path.{◌≡◌, refl, sym, ◌∙◌}
 use mathlib.Core.Bool.{true}
-use borrow.Author.Rules.{rules}
 use borrow.Author.Tests.{not-true, not-false}
 use Rattle.model.specs.Sheet.{line_form}
 use Rattle.lexer.proofs.Answers.{literal_missing, literal_got}

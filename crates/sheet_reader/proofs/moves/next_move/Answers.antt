@@ -4,7 +4,6 @@ use mathlib.Core.Path.{subst}
 use borrow.Author.Tests.{not-true, not-false}
 use Rattle.quick_move.specs.Quick as Quick
 use Rattle.sheet_reader.proofs.Moving.{quick_bad, quick_stored}
-use borrow.Author.Rules.{rules}
 use Rattle.sheet_reader.proofs.moves.next_move.Goals.{In-Found}
 use Rattle.sheet_reader.proofs.moves.next_move.Goals as goal
 

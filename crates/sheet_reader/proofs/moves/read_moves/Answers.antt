@@ -1,10 +1,6 @@
 -- `sheet_reader::moves::read_moves` meets its contract: the loop keeps `Moving`.
-use Prim.Native.Nat.{◌-◌}
 use native.Mathlib.Omega.{arith}
-use borrow.Author.Rules.{rules}
-use lib.ListN.{length}
-use Rattle.sheet_reader.specs.Lent.{lent_rows}
-use Rattle.sheet_reader.proofs.Moving.{Moving, moving_start, moving_end, moving_bad, move_on_lem, moving_more}
+use Rattle.sheet_reader.proofs.Moving.{moving_start, moving_end, moving_bad, move_on_lem, moving_more}
 use Rattle.sheet_reader.proofs.moves.read_moves.Goals as goal
 
 pub loop-more-init : goal.loop-more-init

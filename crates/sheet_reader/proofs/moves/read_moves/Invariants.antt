@@ -1,10 +1,8 @@
 -- `sheet_reader::moves::read_moves` meets its contract: the loop keeps `Moving`.
 use Prim.Native.Nat.{◌-◌}
-use native.Mathlib.Omega.{arith}
-use borrow.Author.Rules.{rules}
 use lib.ListN.{length}
 use Rattle.sheet_reader.specs.Lent.{lent_rows}
-use Rattle.sheet_reader.proofs.Moving.{Moving, moving_start, moving_end, moving_bad, move_on_lem, moving_more}
+use Rattle.sheet_reader.proofs.Moving.{Moving}
 use Rattle.sheet_reader.proofs.moves.read_moves.Given as goal
 
 abbrev pub invariant-loop-more : goal.invariant-loop-more

@@ -1,7 +1,6 @@
 -- `sheet_reader::moves::read_words` meets its contract: one law of `Moving` for each way out.
 use borrow.Author.Tests.{not-true, not-false}
 use Rattle.sheet_reader.proofs.Moving.{GotMove, move_missing, move_got, words_missing, words_bad, words_stored}
-use borrow.Author.Rules.{rules}
 use Rattle.sheet_reader.proofs.moves.read_words.Goals.{In-Found}
 use Rattle.sheet_reader.proofs.moves.read_words.Goals as goal
 

@@ -4,7 +4,6 @@ use mathlib.Core.Bool.{true}
 use borrow.Author.Tests.{not-true, not-false}
 use Rattle.model.specs.Board.{good_ends}
 use Rattle.sheet_reader.proofs.Adding.{pre_byte, post_byte, stores_ends, stores_taken, stores_free}
-use borrow.Author.Rules.{rules}
 use Rattle.sheet_reader.proofs.moves.store_move.Goals.{Else-not-good_ends}
 use Rattle.sheet_reader.proofs.moves.store_move.Goals as goal
 

@@ -2,7 +2,6 @@
 use mathlib.Core.Path.{◌≡◌, sym, ◌∙◌}
 use mathlib.Core.Option.{none}
 use native.Mathlib.Omega.{arith}
-use borrow.Author.Rules.{rules}
 use Rattle.model.specs.TransitionSystem.{system_refusal}
 use Rattle.rows.specs.Told.{system_of}
 use Rattle.transition_system.specs.Sets.{system_rows}
@@ -20,7 +19,7 @@ pub check_transition_system-system-requires : goal.check_transition_system-syste
 check_transition_system-system-requires c =
     let b = c.requires.bounded in
     let (lengths, fresh) = c.requires.checked_sizes in
-    record { bounded = (system_bounded b, fresh.excitations); transitions_in_bounds = (omega (arith, b.transitions, lengths.crossed.sources), omega (arith, b.transitions, lengths.events), omega (arith, b.transitions, lengths.crossed.targets)); }
+    record { bounded = (system_bounded b, fresh.excitations); transitions_in_bounds = (omega (arith, b.transitions, lengths.crossed.sources), omega (arith, b.transitions, lengths.events), omega (arith, b.transitions, lengths.crossed.targets)) }
 
 pub returns-in-Refused : goal.returns-in-Refused
 returns-in-Refused c = rows_by_system c.check_transition_system-system.ensures.result_value c.in-Refused.is
