@@ -5,7 +5,6 @@ use mathlib.Core.Path.{◌≡◌, refl, ap, sym, ◌∙◌, subst}
 use mathlib.Core.Bool.{Bool, true, false, cond}
 use mathlib.Core.List.{List, [], ◌∷◌}
 use mathlib.Core.Option.{Option, none, some, map}
-use lib.ListN.{length}
 use Rattle.model.specs.declared.Refusal as D
 use Rattle.model.specs.Bytes as B
 use Rattle.model.specs.Cases.{tabled}
@@ -14,7 +13,7 @@ use Rattle.model.specs.Machine.{machines_refusal, cover_refusal}
 use Rattle.model.specs.Text.{Input, system, event_number}
 use Rattle.model.specs.Services.{as_far_as7, as_far_as10, as_far_as12, written_refusal}
 use Rattle.model.specs.Printed.{printed_by, printed_run}
-use Rattle.model.proofs.Verdicts.{passed_clear, same_passed}
+use Rattle.model.proofs.Verdicts.{passed_clear}
 use Rattle.rows.specs.declared.Verdict as Rows
 use Rattle.rows.specs.declared.Verdict.TheVariants.{Refused, Passed}
 use Rattle.rows.specs.declared.Tables.{Tables}

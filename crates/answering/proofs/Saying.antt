@@ -4,7 +4,6 @@ use mathlib.Core.Path.{◌≡◌, refl, ap, sym, ◌∙◌, subst}
 use mathlib.Core.List.{List, [], ◌∷◌, flat_map}
 use mathlib.Core.Option.{Option, none, some, map}
 use lib.ListN.{length, take}
-use Rattle.model.specs.Services.{printed}
 use Rattle.model.specs.BoardTable.{ended}
 use Rattle.model.specs.Printed.{printed_thin, printed_board}
 use Rattle.printing.proofs.Checking.{whole_sheet}

@@ -1,9 +1,9 @@
 -- An answer has at least one byte: no byte is printed only where there is none.
 use Prim.Native.Nat.{ℕ, ◌<◌, ◌≤◌}
 use native.Mathlib.Omega.{arith}
-use mathlib.Core.Path.{◌≡◌, refl, ap, sym, ◌∙◌, subst}
+use mathlib.Core.Path.{◌≡◌, refl, sym, ◌∙◌, subst}
 use mathlib.Core.Logic.{◌⊎◌, inl, inr}
-use mathlib.Core.List.{List, [], ◌∷◌, ◌++◌, flat_map}
+use mathlib.Core.List.{List, [], ◌∷◌, flat_map}
 use mathlib.Core.Option.{Option, none, some, map, some-injective, none-ne-some}
 use lib.ListN.{length, take, drop, length-append}
 use Rattle.model.specs.declared.Refusal.TheVariants.{BufferTooShort}

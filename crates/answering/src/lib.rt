@@ -58,9 +58,14 @@ fn answer_name(words: &[u8], text: &[u8], out: &mut [u8]) -> usize
 {
     let plan = check_plan(text);
     let verdict = plan.verdict;
-    let tables = plan.tables;
-    let names = known_names(verdict, tables.counts.events);
-    let said = one_event_said(words, text, &tables.name_at, &tables.name_len, names);
+    let names = known_names(verdict, plan.tables.counts.events);
+    let said = one_event_said(
+        words,
+        text,
+        &plan.tables.name_at,
+        &plan.tables.name_len,
+        names,
+    );
     let Said::Number(event) = said else {
         return 0;
     };
@@ -74,9 +79,14 @@ fn answer_run(words: &mut [u8], text: &[u8], out: &mut [u8]) -> usize
 {
     let split = check_split(text);
     let verdict = split.verdict;
-    let tables = split.tables;
-    let names = known_names(verdict, tables.counts.events);
-    let said = events_said(words, text, &tables.name_at, &tables.name_len, names);
+    let names = known_names(verdict, split.tables.counts.events);
+    let said = events_said(
+        words,
+        text,
+        &split.tables.name_at,
+        &split.tables.name_len,
+        names,
+    );
     let Said::Number(count) = said else {
         return 0;
     };

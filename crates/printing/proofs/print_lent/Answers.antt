@@ -1,5 +1,4 @@
 -- `printing::print_lent` meets its contract: what was left stands there still, and a refusal's line is written over it.
-use borrow.Author.Rules.{rules}
 use Rattle.printing.proofs.Checking.{shows_refused, shows_short, shows_left}
 use Rattle.printing.proofs.print_lent.Goals as goal
 

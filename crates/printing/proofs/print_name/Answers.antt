@@ -1,6 +1,5 @@
 -- `printing::print_name` meets its contract: the part that `name_in_plan` tells, and the end of the line.
 use native.Mathlib.Omega.{arith}
-use borrow.Author.Rules.{rules}
 use Rattle.writers.proofs.Writing.{writes_append}
 use Rattle.printing.proofs.Naming.{part_most, name_refused, name_shown}
 use Rattle.printing.proofs.print_name.Goals as goal

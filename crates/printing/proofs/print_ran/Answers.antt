@@ -1,9 +1,7 @@
 -- `printing::print_ran` meets its contract: the refusal's line, or how far the run went and the places. The laws are in `Runs`.
-use Prim.Native.Nat.{ℕ}
 use native.Mathlib.Omega.{arith}
 use mathlib.Core.Option.{some}
 use mathlib.Core.Path.{sym}
-use borrow.Author.Rules.{rules}
 use Rattle.model.specs.Printed.{ran_word}
 use Rattle.writers.specs.Written.{Writes}
 use Rattle.writers.proofs.Writing.{writes_append, writes_length}
@@ -12,19 +10,12 @@ use Rattle.printing.proofs.Showing.{shows_same}
 use Rattle.printing.proofs.Lines.{shows_as}
 use Rattle.printing.proofs.Places.{places_most}
 use Rattle.printing.proofs.Runs.{line_refused, line_whole, line_blocked, few_whole, few_blocked, blocked_most}
-use Rattle.printing.proofs.print_ran.Goals.{After-write_bytes-e, In-Blocked}
+use Rattle.printing.proofs.print_ran.Goals.{After-write_bytes-e}
 use Rattle.printing.proofs.print_ran.Goals as goal
-
--- how many events ran, and the machine that blocked the next
-abbrev count : In-Blocked → ℕ
-count c = c.in-Blocked.ran
-
-abbrev blocker : In-Blocked → ℕ
-blocker c = c.in-Blocked.machine
 
 -- what stands before them then
 begun : (c : After-write_bytes-e)
-    → Writes (ran_word (count (goal.at.After-write_bytes-e c).In-Blocked) (some (blocker (goal.at.After-write_bytes-e c).In-Blocked))) 0 c.args.out.now c.write_bytes-e.result
+    → Writes (ran_word c.in-Blocked.ran (some c.in-Blocked.machine)) 0 c.args.out.now c.write_bytes-e.result
     c.write_bytes-e.new.out
 unfolding ran_word
 begun c =
@@ -36,34 +27,34 @@ pub write_places-requires : goal.write_places-requires
 write_places-requires c = (few_whole c.requires.1 c.in-Whole.is, omega arith)
 
 pub write_numeral-b-requires : goal.write_numeral-b-requires
-write_numeral-b-requires c = omega (arith, numeral_most (count (goal.at.write_numeral-b-requires c).In-Blocked))
+write_numeral-b-requires c = omega (arith, numeral_most c.in-Blocked.ran)
 
 pub write_bytes-c-requires : goal.write_bytes-c-requires
 write_bytes-c-requires c = omega (
   arith,
-  numeral_most (count (goal.at.write_bytes-c-requires c).In-Blocked),
+  numeral_most c.in-Blocked.ran,
 )
 
 pub write_numeral-d-requires : goal.write_numeral-d-requires
 write_numeral-d-requires c =
     omega (
       arith,
-      numeral_most (count (goal.at.write_numeral-d-requires c).In-Blocked),
-      numeral_most (blocker (goal.at.write_numeral-d-requires c).In-Blocked),
+      numeral_most c.in-Blocked.ran,
+      numeral_most c.in-Blocked.machine,
     )
 
 pub write_bytes-e-requires : goal.write_bytes-e-requires
 write_bytes-e-requires c =
     omega (
       arith,
-      numeral_most (count (goal.at.write_bytes-e-requires c).In-Blocked),
-      numeral_most (blocker (goal.at.write_bytes-e-requires c).In-Blocked),
+      numeral_most c.in-Blocked.ran,
+      numeral_most c.in-Blocked.machine,
     )
 
 pub write_places-requires-in-Blocked : goal.write_places-requires-in-Blocked
 write_places-requires-in-Blocked c =
     let w = begun (goal.at.write_places-requires-in-Blocked c).After-write_bytes-e in
-    (few_blocked c.requires.1 c.in-Blocked.is, omega (arith, w.after, writes_length w, c.requires.0, blocked_most (count (goal.at.write_places-requires-in-Blocked c).In-Blocked) (blocker (goal.at.write_places-requires-in-Blocked c).In-Blocked)))
+    (few_blocked c.requires.1 c.in-Blocked.is, omega (arith, w.after, writes_length w, c.requires.0, blocked_most c.in-Blocked.ran c.in-Blocked.machine))
 
 pub returns-in-Refused : goal.returns-in-Refused
 returns-in-Refused c =
@@ -83,7 +74,7 @@ returns-in-Blocked c =
       arith,
       w.after,
       v.after,
-      blocked_most (count (goal.at.returns-in-Blocked c).In-Blocked) (blocker (goal.at.returns-in-Blocked c).In-Blocked),
+      blocked_most c.in-Blocked.ran c.in-Blocked.machine,
       places_most c.args.answer.places c.args.machines (few_blocked c.requires.1 c.in-Blocked.is),
     ))
     c.requires.0

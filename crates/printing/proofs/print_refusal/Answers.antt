@@ -1,6 +1,5 @@
 -- `printing::print_refusal` meets its contract: the line of a refusal's numbers.
 use native.Mathlib.Omega.{arith}
-use borrow.Author.Rules.{rules}
 use Rattle.answers.specs.Answers.{numbered}
 use Rattle.writers.proofs.Refusals.{refusal_fits}
 use Rattle.printing.proofs.Showing.{shows_refusal}

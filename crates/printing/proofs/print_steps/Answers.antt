@@ -1,8 +1,6 @@
 -- `printing::print_steps` meets its contract: each way out is a law of `Steps` at what the calls have said.
-use Prim.Native.Nat.{ℕ, ◌+◌, ◌≤◌}
+use Prim.Native.Nat.{◌+◌, ◌≤◌}
 use native.Mathlib.Omega.{arith}
-use mathlib.Core.List.{List}
-use borrow.Author.Rules.{rules}
 use lib.ListN.{length}
 use Rattle.model.specs.Services.{as_far_as7}
 use Rattle.writers.proofs.Refusals.{numeral_most}
@@ -13,11 +11,8 @@ use Rattle.printing.proofs.Steps.{steps_refused, steps_short, steps_all}
 use Rattle.printing.proofs.print_steps.Goals.{After-write_bytes-c, In_default}
 use Rattle.printing.proofs.print_steps.Goals as goal
 
-abbrev text : In_default → List ℕ
-text c = c.args.text.now
-
 -- the text is past 7, and the rows hold its value
-held : (c : In_default) → Held (as_far_as7 (text c)) (text c) c.check_plan-reading.result.tables
+held : (c : In_default) → Held (as_far_as7 c.args.text.now) c.args.text.now c.check_plan-reading.result.tables
 held c = c.check_plan-reading.ensures.held (lets_pass c.in_default.is)
 
 -- the first line is short

@@ -1,40 +1,33 @@
 -- `printing::print_thin` meets its contract: the refusal's line, or the machines that are kept. The laws are in `Thins`.
-use Prim.Native.Nat.{ℕ}
 use native.Mathlib.Omega.{arith}
 use mathlib.Core.Path.{sym}
-use borrow.Author.Rules.{rules}
 use Rattle.writers.proofs.Writing.{writes_append, writes_length}
 use Rattle.writers.proofs.Refusals.{numeral_most}
 use Rattle.printing.proofs.Showing.{shows_same}
 use Rattle.printing.proofs.Lines.{shows_as}
 use Rattle.printing.proofs.Thins.{set_line, thin_refused, thin_kept}
-use Rattle.printing.proofs.print_thin.Goals.{In-Kept}
 use Rattle.printing.proofs.print_thin.Goals as goal
 
--- how many machines are kept
-abbrev count : In-Kept → ℕ
-count c = c.in-Kept.size
-
 pub write_numeral-b-requires : goal.write_numeral-b-requires
-write_numeral-b-requires c = omega (arith, numeral_most (count (goal.at.write_numeral-b-requires c).In-Kept))
+write_numeral-b-requires c = omega (arith, numeral_most c.in-Kept.size)
 
 pub write_bytes-c-requires : goal.write_bytes-c-requires
 write_bytes-c-requires c = omega (
   arith,
-  numeral_most (count (goal.at.write_bytes-c-requires c).In-Kept),
+  numeral_most c.in-Kept.size,
 )
 
 pub write_kept-d-requires : goal.write_kept-d-requires
 write_kept-d-requires c = omega (
   arith,
-  numeral_most (count (goal.at.write_kept-d-requires c).In-Kept),
+  numeral_most c.in-Kept.size,
 )
 
 pub write_bytes-requires : goal.write_bytes-requires
 write_bytes-requires c =
     omega (
       arith,
-      numeral_most (count (goal.at.write_bytes-requires c).In-Kept),
+      numeral_most c.in-Kept.size,
       writes_length c.write_kept-d.ensures.writes,
     )
 
@@ -56,6 +49,6 @@ returns-in-Kept c =
       c.write_bytes-c.ensures.after,
       c.write_kept-d.ensures.upper_bound,
       c.write_bytes.ensures.after,
-      numeral_most (count (goal.at.returns-in-Kept c).In-Kept),
+      numeral_most c.in-Kept.size,
     ))
     c.requires

@@ -1,12 +1,6 @@
 -- `printing::write_kept` meets its contract: the numbers of the machines kept among those passed are written. The laws are in `Kept`.
-use Prim.Native.Nat.{ℕ, ◌-◌}
-use native.Mathlib.Omega.{arith}
-use mathlib.Core.Logic.{⊎_elim}
-use mathlib.Core.List.{List}
-use borrow.Author.Rules.{rules}
-use Rattle.writers.proofs.Writing.{writes_length}
-use Rattle.printing.proofs.Lengths.{numeral_two}
-use Rattle.printing.proofs.Kept.{Keeping, Led, keeping_none, keeping_skip, keeping_add, keeping_end, led_space, led_none}
+use Prim.Native.Nat.{◌-◌}
+use Rattle.printing.proofs.Kept.{Keeping}
 use Rattle.printing.proofs.write_kept.Given as goal
 
 abbrev pub invariant-loop-m : goal.invariant-loop-m

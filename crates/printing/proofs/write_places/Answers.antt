@@ -1,16 +1,16 @@
 -- `printing::write_places` meets its contract: the places of the machines passed are written. The laws are in `Places`.
-use Prim.Native.Nat.{◌-◌, ◌<◌}
+use Prim.Native.Nat.{◌<◌}
 use native.Mathlib.Omega.{arith}
 use mathlib.Core.Path.{◌∙◌}
 use lib.ListN.{length}
 use borrow.Author.Rules.{rules}
 use Rattle.writers.proofs.Refusals.{numeral_three}
 use Rattle.writers.proofs.Writing.{writes_length}
-use Rattle.printing.proofs.Places.{Placed, placed_none, placed_add, placed_end}
+use Rattle.printing.proofs.Places.{placed_none, placed_add, placed_end}
 use Rattle.printing.proofs.write_places.Goals.{In-loop-m}
 use Rattle.printing.proofs.write_places.Goals as goal
 
-inside : (c : In-loop-m) → c.loop-m.m < length c.args.t1
+inside : (c : In-loop-m) → c.loop-m.m < length c.args.places
 inside c = search rules
 
 pub write_bytes-i-requires : goal.write_bytes-i-requires

@@ -1,7 +1,6 @@
 -- `printing::write_transition` meets its contract: seven words, one after another. The numbers are below 256, so each has three digits at most.
 use Prim.Native.Nat.{◌+◌, ◌≤◌}
 use native.Mathlib.Omega.{arith}
-use borrow.Author.Rules.{rules}
 use lib.ListN.{length}
 use Rattle.model.specs.Bytes.{numeral}
 use Rattle.model.specs.Printed.{transition_line}
@@ -49,21 +48,24 @@ write_bytes-requires c =
 
 pub returns : goal.returns
 unfolding transition_line
-returns c = record { writes = writes_append c.write_bytes-a.ensures
-          (writes_append (writes_copy c.wide.ensures.0 c.write_numeral-b.ensures)
-          (writes_append c.write_bytes-c.ensures
-          (writes_append (writes_copy c.wide-2.ensures.0 c.write_numeral-d.ensures)
-          (writes_append c.write_bytes-e.ensures
-          (writes_append (writes_copy c.wide-3.ensures.0 c.write_numeral-f.ensures) c.write_bytes.ensures))))); upper_bound = omega (
-        arith,
-        c.write_bytes-a.ensures.after,
-        c.write_numeral-b.ensures.after,
-        c.write_bytes-c.ensures.after,
-        c.write_numeral-d.ensures.after,
-        c.write_bytes-e.ensures.after,
-        c.write_numeral-f.ensures.after,
-        c.write_bytes.ensures.after,
-        source-most (goal.at.returns c).After-wide,
-        event-most (goal.at.returns c).After-wide-2,
-        target-most (goal.at.returns c).After-wide-3,
-      ); }
+returns c = record {
+  writes = writes_append c.write_bytes-a.ensures
+      (writes_append (writes_copy c.wide.ensures.0 c.write_numeral-b.ensures)
+      (writes_append c.write_bytes-c.ensures
+      (writes_append (writes_copy c.wide-2.ensures.0 c.write_numeral-d.ensures)
+      (writes_append c.write_bytes-e.ensures
+      (writes_append (writes_copy c.wide-3.ensures.0 c.write_numeral-f.ensures) c.write_bytes.ensures)))));
+  upper_bound = omega (
+    arith,
+    c.write_bytes-a.ensures.after,
+    c.write_numeral-b.ensures.after,
+    c.write_bytes-c.ensures.after,
+    c.write_numeral-d.ensures.after,
+    c.write_bytes-e.ensures.after,
+    c.write_numeral-f.ensures.after,
+    c.write_bytes.ensures.after,
+    source-most (goal.at.returns c).After-wide,
+    event-most (goal.at.returns c).After-wide-2,
+    target-most (goal.at.returns c).After-wide-3,
+  );
+}

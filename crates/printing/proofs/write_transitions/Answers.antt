@@ -1,8 +1,6 @@
 -- `printing::write_transitions` meets its contract: the lines of the transitions passed are written. The laws are in `Steps`.
-use Prim.Native.Nat.{◌-◌}
-use borrow.Author.Rules.{rules}
 use Rattle.writers.proofs.Writing.{writes_length}
-use Rattle.printing.proofs.Steps.{Listed, listed_none, listed_add, listed_room, listed_end}
+use Rattle.printing.proofs.Steps.{listed_none, listed_add, listed_room, listed_end}
 use Rattle.printing.proofs.write_transitions.Goals as goal
 
 pub loop-k-init : goal.loop-k-init

@@ -1,7 +1,6 @@
 -- `quote_service::hand_over_quotation` meets its contract: the quotation is written beside the buffer, and its first bytes are copied if they fit.
 use Prim.Native.Nat.{ℕ}
 use native.Mathlib.Omega.{arith}
-use borrow.Author.Rules.{rules}
 use lib.ListN.{length-replicate}
 use Rattle.quote_service.proofs.Handing.{short_buffer, copied}
 use Rattle.quote_service.proofs.hand_over_quotation.Goals as goal

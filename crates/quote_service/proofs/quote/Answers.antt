@@ -1,6 +1,5 @@
 -- `quote_service::quote` meets its contract: the answers are laws of `Handing` at what the calls have said.
 use mathlib.Core.Path.{sym}
-use borrow.Author.Rules.{rules}
 use Rattle.rows.specs.Tables.{tables_in}
 use Rattle.stages.specs.Stages.{Past10}
 use Rattle.stages.proofs.Stages.{fresh, fresh_rows, refused_text_10, past_text_10}
@@ -16,12 +15,12 @@ ten : (c : In_default)
 ten c = past_text_10 c.read_as_far_as_10-read.ensures c.in_default.is
 
 pub read_as_far_as_10-read-requires : goal.read_as_far_as_10-read-requires
-read_as_far_as_10-read-requires c = record { fresh_rows = fresh_rows; fresh = fresh; }
+read_as_far_as_10-read-requires c = record { fresh_rows = fresh_rows; fresh = fresh }
 
 pub returns-in-Refused : goal.returns-in-Refused
 returns-in-Refused c =
     let all = quote_refused _ _ _ (refused_text_10 c.read_as_far_as_10-read.ensures c.in-Refused.is) in
-    record { result_value = all.0; out_after = all.1; }
+    record { result_value = all.0; out_after = all.1 }
 
 pub slice_bounds-quote_read-end : goal.slice_bounds-quote_read-end
 slice_bounds-quote_read-end c =
@@ -44,4 +43,4 @@ quote_read-requires c =
     record { sources = _; events = _; targets = _; duplicates = _; post = _; past = ten (goal.at.quote_read-requires c).In_default }
 
 pub returns : goal.returns
-returns c = record { result_value = c.quote_read.ensures.result_value; out_after = c.quote_read.ensures.out_after; }
+returns c = record { result_value = c.quote_read.ensures.result_value; out_after = c.quote_read.ensures.out_after }

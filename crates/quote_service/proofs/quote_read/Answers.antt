@@ -1,6 +1,5 @@
 -- `quote_service::quote_read` meets its contract: both answers are laws of `Handing` at what the calls have said.
 use native.Mathlib.Omega.{arith}
-use borrow.Author.Rules.{rules}
 use Rattle.stages.proofs.Stages.{counts_bounded}
 use Rattle.quote_service.proofs.Handing.{rows_ready, rows_short, cover_refused, handed_over}
 use Rattle.quote_service.proofs.quote_read.Goals as goal
@@ -18,10 +17,10 @@ hand_over_quotation-requires c =
 pub returns-in-Refused : goal.returns-in-Refused
 returns-in-Refused c =
     let all = cover_refused c.requires _ c.remove_redundant.ensures c.in-Refused.is in
-    record { result_value = all.0; out_after = all.1; }
+    record { result_value = all.0; out_after = all.1 }
 
 pub returns-in-To : goal.returns-in-To
 returns-in-To c =
     let all = handed_over c.requires _ c.remove_redundant.ensures _ _ c.in-To.is (omega arith)
     c.hand_over_quotation.ensures in
-    record { result_value = all.0; out_after = all.1; }
+    record { result_value = all.0; out_after = all.1 }

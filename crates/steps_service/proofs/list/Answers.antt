@@ -44,4 +44,4 @@ list_transitions-requires c =
 pub returns : goal.returns
 returns c =
     let h = seven (goal.at.returns c).In_default in
-    lists_all h c.if-room-needed.false (omega (arith, h.bounds.transitions, c.requires, c.row-1.given)) c.list_transitions.ensures
+    lists_all h c.if-room-needed.false (omega (arith, h.bounds.transitions, c.requires)) c.list_transitions.ensures

@@ -1,6 +1,5 @@
 -- `thin_service::thin` meets its contract: the answers are laws of `Thinning` at what the calls have said.
 use mathlib.Core.Path.{sym}
-use borrow.Author.Rules.{rules}
 use Rattle.rows.specs.Tables.{tables_in}
 use Rattle.stages.specs.Stages.{Past10}
 use Rattle.stages.proofs.Stages.{fresh, fresh_rows, refused_text_10, past_text_10, counts_bounded}
@@ -16,7 +15,7 @@ ten : (c : In_default)
 ten c = past_text_10 c.read_as_far_as_10-read.ensures c.in_default.is
 
 pub read_as_far_as_10-read-requires : goal.read_as_far_as_10-read-requires
-read_as_far_as_10-read-requires c = record { fresh_rows = fresh_rows; fresh = fresh; }
+read_as_far_as_10-read-requires c = record { fresh_rows = fresh_rows; fresh = fresh }
 
 pub returns-in-Refused : goal.returns-in-Refused
 returns-in-Refused c = thin_refused _ _ (refused_text_10 c.read_as_far_as_10-read.ensures c.in-Refused.is)
