@@ -17,12 +17,12 @@ judged : (c : In_default)
 judged c = past_text c.read_as_far_as_12-read.ensures c.in_default.is
 
 pub read_as_far_as_12-read-requires : goal.read_as_far_as_12-read-requires
-read_as_far_as_12-read-requires c = record { fresh_rows = fresh_rows; fresh = fresh; }
+read_as_far_as_12-read-requires c = record { fresh_rows = fresh_rows; fresh = fresh }
 
 pub returns-in-Refused : goal.returns-in-Refused
 returns-in-Refused c =
     let all = check_refused _ _ _ (refused_text c.read_as_far_as_12-read.ensures c.in-Refused.is) in
-    record { result_value = all.0; out_after = all.1; }
+    record { result_value = all.0; out_after = all.1 }
 
 pub slice_bounds-hand_over-end : goal.slice_bounds-hand_over-end
 slice_bounds-hand_over-end c =
@@ -49,4 +49,4 @@ hand_over-requires c =
 pub returns : goal.returns
 returns c =
     let all = check_passed (judged (goal.at.returns c).In_default) _ _ _ (c.hand_over.ensures _ _ _ _) in
-    record { result_value = all.0; out_after = all.1; }
+    record { result_value = all.0; out_after = all.1 }

@@ -14,7 +14,7 @@ returns-then-lent-size c = λ sources events targets duplicates.
 pub write_sheet-requires : goal.write_sheet-requires
 write_sheet-requires c =
     let p = c.requires in
-    record { sheet_ready = p; size_value = (c.sheet_len-size.ensures _ _ [] [] [] [] p.3, c.if-lent-size.false); }
+    record { sheet_ready = p; size_value = (c.sheet_len-size.ensures _ _ [] [] [] [] p.3, c.if-lent-size.false) }
 
 pub returns : goal.returns
 returns c = λ sources events targets duplicates.

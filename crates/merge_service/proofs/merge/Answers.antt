@@ -16,12 +16,12 @@ ten : (c : In_default)
 ten c = past_text_10 c.read_as_far_as_10-read.ensures c.in_default.is
 
 pub read_as_far_as_10-read-requires : goal.read_as_far_as_10-read-requires
-read_as_far_as_10-read-requires c = record { fresh_rows = fresh_rows; fresh = fresh; }
+read_as_far_as_10-read-requires c = record { fresh_rows = fresh_rows; fresh = fresh }
 
 pub returns-in-Refused : goal.returns-in-Refused
 returns-in-Refused c =
     let all = merge_refused _ _ _ (refused_text_10 c.read_as_far_as_10-read.ensures c.in-Refused.is) in
-    record { result_value = all.0; out_after = all.1; }
+    record { result_value = all.0; out_after = all.1 }
 
 pub slice_bounds-merge_read-end : goal.slice_bounds-merge_read-end
 slice_bounds-merge_read-end c =
@@ -46,4 +46,4 @@ merge_read-requires c =
 pub returns : goal.returns
 returns c =
     let all = merge_past (ten (goal.at.returns c).In_default) _ _ _ c.merge_read.ensures in
-    record { result_value = all.0; out_after = all.1; }
+    record { result_value = all.0; out_after = all.1 }

@@ -17,7 +17,7 @@ judged : (c : In_default)
 judged c = past_text c.read_as_far_as_12-read.ensures c.in_default.is
 
 pub read_as_far_as_12-read-requires : goal.read_as_far_as_12-read-requires
-read_as_far_as_12-read-requires c = record { fresh_rows = fresh_rows; fresh = fresh; }
+read_as_far_as_12-read-requires c = record { fresh_rows = fresh_rows; fresh = fresh }
 
 pub returns-in-Refused : goal.returns-in-Refused
 returns-in-Refused c = run_refused _ _ _ (refused_text c.read_as_far_as_12-read.ensures c.in-Refused.is) c.refused.ensures

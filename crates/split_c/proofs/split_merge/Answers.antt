@@ -6,4 +6,4 @@ use Rattle.flat.specs.Flat.{flat_answer}
 use Rattle.split_c.proofs.split_merge.Goals as goal
 
 pub returns : goal.returns
-returns c = record { value = c.flat_answer.ensures ∙ ap flat_answer (search rules); out_after = search rules; }
+returns c = record { value = c.flat_answer.ensures ∙ ap flat_answer (search rules); out_after = search rules }
