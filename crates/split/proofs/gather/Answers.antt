@@ -1,5 +1,5 @@
 -- `split::gather` meets its contract: the word that was taken has no room, or stands behind the others.
-use Rattle.std.proofs.Common.{rules, List, ℕ, take}
+use Rattle.std.proofs.Common.{rules, take}
 use Rattle.split.proofs.Gathering.{gathering_more, gathering_stop}
 use Rattle.split.proofs.gather.Goals as goal
 
