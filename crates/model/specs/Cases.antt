@@ -1,4 +1,4 @@
--- The types of the code in the model's words. Each is told whole (proofs/Cases: tabled-injective, records-injective).
+-- The types of the code in the model's words. Each is told whole (proofs/Cases: tabled_injective, records_injective).
 -- Believed: all of it.
 use Rattle.model.specs.declared.Refusal.TheVariants as C
 use Rattle.model.specs.declared.Refusal as D

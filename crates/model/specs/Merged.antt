@@ -1,5 +1,5 @@
 -- What slip 4 of document 02, "Fewer places on a board", says of its pass and of the call. Each sentence of it stands beside its statement.
--- Believed, as statements over the notions of Region, Table and Demands. Proved of every text (proofs/Merges: merges-hold).
+-- Believed, as statements over the notions of Region, Table and Demands. Proved of every text (proofs/Merges: merges_hold).
 use Rattle.std.specs.Prelude.{ℕ, suc, ◌<◌, ◌≤◌, ◌≡◌, ◌⊎◌, List, ◌++◌, length}
 use Rattle.model.specs.Lists.{At}
 use Rattle.model.specs.Refusal.{Refusal}

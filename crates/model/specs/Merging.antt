@@ -1,5 +1,5 @@
 -- Merging places of a machine. Document 02, slip 4, "Fewer places on a board".
--- Believed: `with_machines`, by which the merged split's sheet has the plan's names. Held by merges-hold: one merge (`places`, `in_machine`, `others`, `as_many`), the pass
+-- Believed: `with_machines`, by which the merged split's sheet has the plan's names. Held by merges_hold: one merge (`places`, `in_machine`, `others`, `as_many`), the pass
 -- (`one_result`, `result`).
 use Rattle.std.specs.Prelude.{ℕ, zero, suc, Bool, not, ◌&&◌, List, [], ◌∷◌, ◌++◌, ltb, length, get_or, set}
 use Rattle.std.proofs.Math.Option.{Option, none, some, map}

@@ -1,5 +1,5 @@
 -- What slip 5 of document 02, "Names as the drawings spell them", says of names, and of texts and sheets respelt.
--- Believed, as statements. Proved of all names, texts and sheets (proofs/Spellings: one-event-holds, respelling-holds; proofs/SheetSpellings: sheet-respelling-holds); proofs/Respelt has a
+-- Believed, as statements. Proved of all names, texts and sheets (proofs/Spellings: one_event_holds, respelling_holds; proofs/SheetSpellings: sheet_respelling_holds); proofs/Respelt has a
 -- text and a sheet that are respelt. The slip's other sentences stand with what they speak of: "Declaring both is 3" in Table and demand2 (`as_far_as_3`), "A sheet
 -- prints the spelling of the events line" in demand2 (`shown`), "a sheet that was read keeps its own spelling" in demand1 (`rewriting`).
 use Rattle.std.specs.Prelude.{ℕ, ◌+◌, ◌≤◌, ◌≡◌, ◌⊎◌, ◌↔◌, T}

@@ -1,5 +1,5 @@
 -- Document 02, slip 2, "Start away from the park position": its examples, from the bytes of each text to the answers, in one table, by computation.
--- Held by computing: to be compared with the papers; `StartsAway` and `RefusedAway` by demand2 and demand3 (proofs/Starts: starts-away, refused-away).
+-- Held by computing: to be compared with the papers; `StartsAway` and `RefusedAway` by demand2 and demand3 (proofs/Starts: starts_away, refused_away).
 use Rattle.std.specs.Prelude.{ℕ, ◌<◌, ◌≡◌, refl, ◌↔◌, true, ltb, replicate}
 use Prim.Native.String.{String, ◌++◌}
 use mathlib.Core.List.{List, [], ◌∷◌, flat_map, flatten, Memᴰ}

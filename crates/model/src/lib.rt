@@ -16,7 +16,7 @@ pub const MAX_PLACES: usize = 64;
 
 // A step record, as a caller lends it, a caller in C too. Document 01: from-state, event number, to-state.
 #[repr(C)]
-#[derive(Drop)]
+#[derive(Clone, Copy)]
 pub struct Transition {
     pub source: u8,
     pub event: u8,
