@@ -16,7 +16,7 @@ pub enum Answer {
 }
 
 // A refusal as document 01's table has it.
-#[derive(Drop)]
+#[derive(Clone, Copy)]
 pub struct RefusalNumbers {
     pub number: usize,
     pub detail: usize,

@@ -16,7 +16,7 @@ use model::{MAX_MACHINES, MAX_PLACES, MAX_STATES, Refusal};
 use rows::wide;
 
 // What became of a list of events.
-#[derive(Drop)]
+#[derive(Clone, Copy)]
 pub enum Outcome {
     // it ran to its end
     Whole,
@@ -26,7 +26,7 @@ pub enum Outcome {
 }
 
 // The place of each machine, 0 for machine numbers not in use; all 0 where the call is refused.
-#[derive(Drop)]
+#[derive(Clone, Copy)]
 pub struct RunAnswer {
     pub outcome: Outcome,
     pub places: [u8; MAX_MACHINES],

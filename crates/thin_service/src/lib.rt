@@ -13,7 +13,7 @@ use stages::read_as_far_as_10;
 use transition_system::EXCITATION_WORDS;
 
 // The answer of Thin.
-#[derive(Drop)]
+#[derive(Clone, Copy)]
 pub enum Thinned {
     Refused(Refusal),
     // the machines that are kept, bit i for machine i, and how many they are
