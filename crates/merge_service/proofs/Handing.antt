@@ -7,7 +7,7 @@ use mathlib.Core.Option.{some, none-ne-some, some-injective}
 use Rattle.model.specs.declared.Refusal as D
 use Rattle.model.specs.Cases.{tabled}
 use Rattle.model.specs.Lists.{At}
-use Rattle.model.specs.Refusal.{Refusal, refused, passed}
+use Rattle.model.specs.Refusal.{refused, passed}
 use Rattle.model.specs.TransitionSystem.{TransitionSystem}
 use Rattle.model.specs.Product.{Move}
 use Rattle.model.specs.Machine.{Machine, place_of, move}

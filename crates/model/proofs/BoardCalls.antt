@@ -11,7 +11,7 @@ use lib.Dec.{T}
 use lib.ListN.{length, take, drop, replicate}
 use lib.Seq.{length-take-le}
 use Rattle.model.specs.Lists.{At, every, index, is_empty}
-use Rattle.model.specs.Refusal.{Refusal, refuse, Checked, refused, passed, ◌>>◌, ◌>>=◌}
+use Rattle.model.specs.Refusal.{Refusal, refuse, Checked, refused, passed, ◌>>=◌}
 use Rattle.model.specs.Product.{Ran, effective, run_from}
 use Rattle.model.specs.Bytes.{Name, IsName, OneEvent}
 use Rattle.model.specs.Sheet.{Board, written_sheet}

@@ -11,7 +11,7 @@ use lib.Seq.{take_at}
 use Rattle.model.specs.Lists.{is_some}
 use Rattle.model.specs.Refusal.{Refusal, passed}
 use Rattle.model.specs.TransitionSystem.{TransitionSystem, system_step, runs, and_then, system_runs, transitions_refusal}
-use Rattle.model.specs.Product.{Ran, effective, fire_all, blocker, run_from}
+use Rattle.model.specs.Product.{Ran, fire_all, blocker, run_from}
 use Rattle.model.specs.Machine.{Machine, Decomposition, places, move, product_runs}
 use Rattle.model.specs.Region.{Walk, Arc, Blocks, Stands, MachinesRun}
 use Rattle.model.specs.Services.{whole, blocked, refused_by, outcome_of, padded, ran_answer}

@@ -9,7 +9,7 @@ use mathlib.Core.Option.{Option, none, some, some-injective, none-ne-some}
 use lib.ListN.{length, take, get_or}
 use lib.Seq.{length-take-le}
 use Rattle.model.specs.Lists.{At}
-use Rattle.model.specs.TransitionSystem.{TransitionSystem, declared}
+use Rattle.model.specs.TransitionSystem.{TransitionSystem}
 use Rattle.model.specs.Product.{Move}
 use Rattle.model.specs.Region.{Arc}
 use Rattle.model.specs.Machine.{Machine, Decomposition, place_of, places, move}

@@ -1,5 +1,5 @@
 -- The moves of the machines on a sheet: which events are on it, and that a line's moves are its transitions.
-use Prim.Native.Nat.{ℕ, ◌-◌}
+use Prim.Native.Nat.{ℕ}
 use mathlib.Core.Path.{◌≡◌, ap, sym, ◌∙◌, subst, ap₂}
 use mathlib.Core.List.{List, Memᴰ}
 use mathlib.Core.Option.{none, some, map, none-ne-some, some-injective}

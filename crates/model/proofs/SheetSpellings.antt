@@ -7,7 +7,7 @@ use mathlib.Core.List.{List, [], ◌∷◌, ◌++◌, flat_map}
 use lib.ListN.{length, take, drop, length-append}
 use Rattle.model.specs.Lists.{Pairwise}
 use Rattle.model.specs.Refusal.{refuse, refused, passed}
-use Rattle.model.specs.Bytes.{bytes, digits, Name}
+use Rattle.model.specs.Bytes.{digits, Name}
 use Rattle.model.specs.Sheet.{NamedMove, NamedLine, Board, move_bytes, written_move, written_line, written_count}
 use Rattle.model.specs.Board.{read_sheet, board_run}
 use Rattle.model.specs.BoardTable.{OnSheet, GoodLine, BeginsSheet, too_long, line}

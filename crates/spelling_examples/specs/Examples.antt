@@ -1,5 +1,5 @@
 -- Names as the drawings spell them, from the bytes of each text or sheet to the answer, computed (`spelt_texts`, `spelt_sheets`). Document 02, slip 5.
-use Rattle.std.specs.Prelude.{ℕ, ◌≡◌, refl, true, false, length, replicate}
+use Rattle.std.specs.Prelude.{◌≡◌, refl, true, false, replicate}
 use Prim.Native.String.{String, ◌++◌}
 use mathlib.Core.List.{[], ◌∷◌, flat_map, flatten}
 use Rattle.std.proofs.Math.Option.{or_else}

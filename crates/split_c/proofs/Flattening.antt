@@ -7,14 +7,11 @@ use mathlib.Core.Option.{some, none, some-ne-none, some-injective}
 use Rattle.model.specs.declared.Refusal as D
 use Rattle.model.specs.Cases.{tabled}
 use Rattle.model.specs.Refusal.{Refusal, Checked, refused, passed, refusal_of}
-use Rattle.model.specs.Services as Services
 use Rattle.model.specs.Services.{Part, name, handed_back, name_refusal}
 use Rattle.rows.specs.declared.Verdict.TheVariants as C
 use Rattle.rows.specs.Tables.{verdict_refusal}
-use Rattle.product.specs.declared.Outcome.TheVariants as O
 use Rattle.name_service.specs.declared.NamePart.{NamePart}
 use Rattle.name_service.specs.Parts.{Named}
-use Rattle.answers.specs.declared.Answer.TheVariants as A
 use Rattle.thin_service.specs.declared.Thinned.{Thinned}
 use Rattle.thin_service.specs.declared.Thinned.TheVariants as T
 use Rattle.answers.specs.declared.RefusalNumbers.{RefusalNumbers}

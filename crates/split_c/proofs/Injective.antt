@@ -5,17 +5,12 @@ use mathlib.Core.Path.{◌≡◌, refl, ap}
 use mathlib.Core.Logic.{◌⊎◌, inl, inr}
 use mathlib.Core.List.{List}
 use lib.ListN.{length}
-use Rattle.model.specs.declared.Refusal as D
-use Rattle.model.specs.declared.Refusal.TheVariants as C
 use Rattle.model.specs.Refusal.{Refusal, refuse, Checked, refused, passed}
 use Rattle.model.specs.Text.{Input}
 use Rattle.model.specs.Table.{Offends, Passes, Refused}
-use Rattle.model.specs.Services as Services
 use Rattle.model.specs.Services.{Part, name}
 use Rattle.model.proofs.Order.{text_number, offence_number}
 use Rattle.model.proofs.Demands.{demand1}
-use Rattle.product.specs.declared.Outcome.TheVariants as O
-use Rattle.answers.specs.declared.Answer.TheVariants as A
 use Rattle.thin_service.specs.declared.Thinned.{Thinned}
 use Rattle.thin_service.specs.declared.Thinned.TheVariants as T
 use Rattle.thin_service.specs.Answers.{thinned}

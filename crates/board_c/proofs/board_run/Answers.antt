@@ -1,5 +1,4 @@
 -- `board_c::board_run` meets its contract: what `board` answers, flat.
-use borrow.Author.Rules.{rules}
 use mathlib.Core.Path.{ap, ◌∙◌}
 use Rattle.flat.specs.Flat.{flat_run}
 use Rattle.board_c.proofs.board_run.Goals as goal

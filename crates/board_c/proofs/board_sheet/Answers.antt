@@ -1,5 +1,4 @@
 -- `board_c::board_sheet` meets its contract: what `sheet` answers, flat.
-use borrow.Author.Rules.{rules}
 use mathlib.Core.Path.{ap, ◌∙◌}
 use Rattle.flat.specs.Flat.{flat_answer}
 use Rattle.board_c.proofs.board_sheet.Goals as goal

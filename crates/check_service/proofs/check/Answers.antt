@@ -1,6 +1,5 @@
 -- `check_service::check` meets its contract: each answer is a law of `Checking` at what the calls have said.
 use mathlib.Core.Path.{sym}
-use borrow.Author.Rules.{rules}
 use Rattle.rows.specs.Tables.{tables_in}
 use Rattle.sheet.proofs.Told.{sheet_bounds}
 use Rattle.stages.specs.Stages.{Judged}

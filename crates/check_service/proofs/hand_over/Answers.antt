@@ -1,6 +1,5 @@
 -- `check_service::hand_over` meets its contract: both answers are laws of `Checking` at what the calls have said.
 use mathlib.Core.List.{[]}
-use borrow.Author.Rules.{rules}
 use Rattle.answers.proofs.Lending.{lends_short, lends_written}
 use Rattle.check_service.proofs.hand_over.Goals as goal
 

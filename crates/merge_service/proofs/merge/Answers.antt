@@ -1,6 +1,5 @@
 -- `merge_service::merge` meets its contract: the answers are laws of `Handing` at what the calls have said.
 use mathlib.Core.Path.{sym}
-use borrow.Author.Rules.{rules}
 use Rattle.rows.specs.Tables.{tables_in}
 use Rattle.stages.specs.Stages.{Past10}
 use Rattle.stages.proofs.Stages.{fresh, fresh_rows, refused_text_10, past_text_10, counts_bounded}

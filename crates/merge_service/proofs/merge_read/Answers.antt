@@ -1,5 +1,4 @@
 -- `merge_service::merge_read` meets its contract: both answers are laws of `Handing` at what the calls have said.
-use borrow.Author.Rules.{rules}
 use Rattle.merge_service.proofs.Handing.{cover_refused, sheet_ready, handed_over}
 use Rattle.merge_service.proofs.merge_read.Goals as goal
 

@@ -1,5 +1,4 @@
 -- `name_service::name_in_plan` meets its contract: each way out is a law of `Parts` at what the calls have said.
-use borrow.Author.Rules.{rules}
 use Rattle.rows.proofs.Verdicts.{lets_pass}
 use Rattle.name_service.proofs.Parts.{refused_text, in_rows}
 use Rattle.name_service.proofs.name_in_plan.Goals as goal

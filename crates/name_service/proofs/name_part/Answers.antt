@@ -1,6 +1,5 @@
 -- `name_service::name_part` meets its contract: each way out is a law of `Parts` at what the calls have said.
 use mathlib.Core.Path.{sym}
-use borrow.Author.Rules.{rules}
 use Rattle.rows.proofs.Verdicts.{lets_pass}
 use Rattle.name_service.proofs.Parts.{refused_text, in_rows}
 use Rattle.name_service.proofs.name_part.Goals as goal

@@ -1,7 +1,6 @@
 -- `name_service::part_in_rows` meets its contract: the rows' own numbers, or 14.
 use native.Mathlib.Omega.{arith}
 use mathlib.Core.Path.{refl}
-use borrow.Author.Rules.{rules}
 use Rattle.rows.proofs.Names.{name_inside}
 use Rattle.name_service.proofs.part_in_rows.Goals as goal
 

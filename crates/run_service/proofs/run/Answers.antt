@@ -1,7 +1,6 @@
 -- `run_service::run` meets its contract: both answers are laws of `Running` at what the calls have said.
 use native.Mathlib.Omega.{arith}
 use mathlib.Core.Path.{sym}
-use borrow.Author.Rules.{rules}
 use Rattle.rows.specs.Tables.{tables_in}
 use Rattle.stages.specs.Stages.{Judged}
 use Rattle.stages.proofs.Stages.{fresh, fresh_rows, refused_text, past_text}

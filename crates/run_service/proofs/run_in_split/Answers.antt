@@ -1,6 +1,5 @@
 -- `run_service::run_in_split` meets its contract: both answers are laws of `Running` at what the calls have said.
 use native.Mathlib.Omega.{arith}
-use borrow.Author.Rules.{rules}
 use Rattle.stages.proofs.Stages.{refused_text, past_text}
 use Rattle.run_service.proofs.Running.{run_refused, runnable, ran}
 use Rattle.run_service.proofs.run_in_split.Goals as goal

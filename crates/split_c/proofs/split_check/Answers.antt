@@ -1,5 +1,4 @@
 -- `split_c::split_check` meets its contract: what `check` answers, flat.
-use borrow.Author.Rules.{rules}
 use mathlib.Core.Path.{ap, ◌∙◌}
 use Rattle.flat.specs.Flat.{flat_answer}
 use Rattle.split_c.proofs.split_check.Goals as goal

@@ -1,5 +1,4 @@
 -- `split_c::split_name` meets its contract: where the name stands, by its two ends.
-use borrow.Author.Rules.{rules}
 use Rattle.split_c.proofs.Flattening.{name_refused, name_passed}
 use Rattle.split_c.proofs.split_name.Goals as goal
 

@@ -1,5 +1,4 @@
 -- `split_c::split_run` meets its contract: what `run` answers, flat.
-use borrow.Author.Rules.{rules}
 use mathlib.Core.Path.{ap, ◌∙◌}
 use Rattle.flat.specs.Flat.{flat_run}
 use Rattle.split_c.proofs.split_run.Goals as goal

@@ -1,5 +1,4 @@
 -- `split_c::split_sheet` meets its contract: what `sheet` answers, flat.
-use borrow.Author.Rules.{rules}
 use mathlib.Core.Path.{ap, ◌∙◌}
 use Rattle.flat.specs.Flat.{flat_answer}
 use Rattle.split_c.proofs.split_sheet.Goals as goal

@@ -1,5 +1,4 @@
 -- `split_c::split_thin` meets its contract.
-use borrow.Author.Rules.{rules}
 use Rattle.split_c.proofs.Flattening.{set_refused, set_kept}
 use Rattle.split_c.proofs.split_thin.Goals as goal
 
