@@ -1,7 +1,7 @@
 -- The names that count: those of the text checked as far as 7. As far as 12 they are the same, or the text is refused, and then which events are meant is open.
 use Prim.Native.Nat.{ℕ}
 use native.Mathlib.Omega.{arith}
-use mathlib.Core.Path.{◌≡◌, refl, ap, sym, ◌∙◌, subst}
+use mathlib.Core.Path.{◌≡◌, refl, ap, sym, ◌∙◌}
 use mathlib.Core.Bool.{Bool, true, false, cond}
 use mathlib.Core.List.{List, [], ◌∷◌}
 use mathlib.Core.Option.{Option, none, some, map}
@@ -14,13 +14,13 @@ use Rattle.model.specs.Text.{Input, system, event_number}
 use Rattle.model.specs.Services.{as_far_as7, as_far_as10, as_far_as12, written_refusal}
 use Rattle.model.specs.Printed.{printed_by, printed_run}
 use Rattle.model.proofs.Verdicts.{passed_clear}
-use Rattle.rows.specs.declared.Verdict as Rows
-use Rattle.rows.specs.declared.Verdict.TheVariants.{Refused, Passed}
+use Rattle.std.specs.Prelude.{Ok, Err}
+use Rattle.std.specs.Prelude as Std
 use Rattle.rows.specs.declared.Tables.{Tables}
 use Rattle.rows.specs.Bounded.{NamesInside}
-use Rattle.rows.specs.Names.{names_in}
+use Rattle.rows.specs.Names.{names_in, row_names}
 use Rattle.rows.proofs.Names.{told_names}
-use Rattle.rows.proofs.Verdicts.{lets_pass, refused_as}
+use Rattle.rows.proofs.Verdicts.{refuses, lets_pass, refused_as}
 use Rattle.stages.specs.Stages.{ReadAsFarAs7, ReadAsFarAs12, Held}
 use Rattle.stages.proofs.Stages.{refused_text, past_text, past_12}
 use Rattle.command_line.specs.Names.{NameRows}
@@ -31,30 +31,27 @@ use Rattle.answering.specs.Known.{known_names}
 
 -- ---- the rows of names
 
-no_rows : {s ats lens : List ℕ} {n : ℕ} → n ≡ 0 → NameRows s ats lens n
+-- the same tables, with so many names
+abbrev pub with_names : Tables → ℕ → Tables
+with_names p n =
+    record {
+      counts = record { states = p.counts.states; initial = p.counts.initial; events = n; transitions = p.counts.transitions; machines = p.counts.machines };
+      name_at = p.name_at;
+      name_len = p.name_len;
+      source = p.source;
+      event = p.event;
+      target = p.target;
+      sizes = p.sizes;
+      duplicate = p.duplicate;
+      place = p.place;
+    }
+
+no_rows : (s : List ℕ) (p : Tables) → NameRows s (with_names p 0)
 unfolding NamesInside
-no_rows z = record { most = omega arith; at_size = omega arith; len_size = omega arith; inside = λ e l. absurd (omega arith) }
+no_rows s p = record { most = omega arith; inside = λ e l. absurd (omega arith) }
 
-held_rows : {s : List ℕ} {c : Checked Input} {p : Tables} {n : ℕ} → Held c s p → n ≡ p.counts.events → NameRows s p.name_at p.name_len n
-held_rows {s} {c} {p} h e =
-    subst (NameRows s p.name_at p.name_len) (sym e)
-    (record { most = h.bounds.events; at_size = omega (arith, h.bounds.events, h.sized.name_places); len_size = omega (arith, h.bounds.events, h.sized.name_lengths); inside = h.names })
-
-no_names_lem : (s ats lens : List ℕ) {n : ℕ} → n ≡ 0 → names_in s ats lens n ≡ []
-unfolding names_in
-no_names_lem s ats lens e = ap (names_in s ats lens) e
-
-held_names : {s : List ℕ} {c : Checked Input} {p : Tables} {n : ℕ} (h : Held c s p) → n ≡ p.counts.events
-    → names_in s p.name_at p.name_len n ≡ h.value.names
-held_names {s} {c} {p} h e = ap (names_in s p.name_at p.name_len) e ∙ told_names s h.value p h.told
-
-none_known : {r : Rows.Verdict} {n : ℕ} (m : ℕ) {why : D.Refusal} → n ≡ known_names r m → r ≡ Refused why → n ≡ 0
-unfolding known_names
-none_known m k e = k ∙ ap (λ (v : Rows.Verdict). known_names v m) e
-
-all_known : {r : Rows.Verdict} {n m : ℕ} → n ≡ known_names r m → r ≡ Passed → n ≡ m
-unfolding known_names
-all_known {m = m} k e = k ∙ ap (λ (v : Rows.Verdict). known_names v m) e
+held_rows : {s : List ℕ} {c : Checked Input} {p : Tables} → Held c s p → NameRows s p
+held_rows h = record { most = h.bounds.events; inside = h.names }
 
 names_refused : {c : Checked Input} {q : Refusal} → c ≡ refused q → [] ≡ names_of c
 unfolding names_of
@@ -66,20 +63,22 @@ names_passed e = sym (ap names_of e)
 
 -- ---- as far as 7
 
-module _ {s : List ℕ} {p : Tables} {n : ℕ} (r : Rows.Verdict) (h : ReadAsFarAs7 s r p) (k : n ≡ known_names r p.counts.events) where
-  pub rows_7 : NameRows s p.name_at p.name_len n
-  rows_7 = go r refl
-    where
-      go : (v : Rows.Verdict) → r ≡ v → NameRows s p.name_at p.name_len n
-      go (Refused why) e = no_rows (none_known p.counts.events k e)
-      go Passed e = held_rows (h.held (lets_pass e)) (all_known k e)
+module _ (s : List ℕ) (p : Tables) {n : ℕ} where
+  pub reads_7 : (r : Std.Result (Unit {0}) D.Refusal) → ReadAsFarAs7 s r p → n ≡ known_names r p.counts.events → ReadAsFarAs7 s r (with_names p n)
+  unfolding known_names
+  reads_7 (Err why) h k = rw k (record { verdict = h.verdict; held = refuses why })
+  reads_7 (Ok u) h k = rw k h
 
-  pub names_7 : names_in s p.name_at p.name_len n ≡ names_of (as_far_as7 s)
-  names_7 = go r refl
-    where
-      go : (v : Rows.Verdict) → r ≡ v → names_in s p.name_at p.name_len n ≡ names_of (as_far_as7 s)
-      go (Refused why) e = no_names_lem s p.name_at p.name_len (none_known p.counts.events k e) ∙ names_refused (refused_as h.verdict e)
-      go Passed e = let q = h.held (lets_pass e) in held_names q (all_known k e) ∙ names_passed q.passes
+  pub rows_7 : (r : Std.Result (Unit {0}) D.Refusal) → ReadAsFarAs7 s r p → n ≡ known_names r p.counts.events → NameRows s (with_names p n)
+  unfolding known_names
+  rows_7 (Err why) h k = rw k (no_rows s p)
+  rows_7 (Ok u) h k = rw k (held_rows (h.held (lets_pass refl)))
+
+  pub names_7 : (r : Std.Result (Unit {0}) D.Refusal) → ReadAsFarAs7 s r p → n ≡ known_names r p.counts.events
+      → row_names s (with_names p n) ≡ names_of (as_far_as7 s)
+  unfolding known_names names_in
+  names_7 (Err why) h k = rw k (names_refused (refused_as h.verdict refl))
+  names_7 (Ok u) h k = let q = h.held (lets_pass refl) in rw k (told_names s q.value p q.told ∙ names_passed q.passes)
 
 -- ---- as far as 12
 
@@ -128,28 +127,29 @@ passes_7 s v e =
     (passed_clear (as_far_as7 s) (λ w. machines_refusal (system w) 0 w.machines) v
     (passed_clear (as_far_as10 s) (λ w. cover_refusal (system w) w.machines) v e).0).0
 
-module _ {s : List ℕ} {p : Tables} {pre post excited : List ℕ} {n : ℕ} (r : Rows.Verdict) (h : ReadAsFarAs12 s r p pre post excited)
-    (k : n ≡ known_names r p.counts.events) where
-  pub rows_12 : NameRows s p.name_at p.name_len n
-  rows_12 = go r refl
-    where
-      go : (v : Rows.Verdict) → r ≡ v → NameRows s p.name_at p.name_len n
-      go (Refused why) e = no_rows (none_known p.counts.events k e)
-      go Passed e = held_rows (past_text h e).past.held (all_known k e)
+module _ (s : List ℕ) (p : Tables) {pre post excited : List ℕ} {n : ℕ} where
+  pub reads_12 : (r : Std.Result (Unit {0}) D.Refusal) → ReadAsFarAs12 s r p pre post excited → n ≡ known_names r p.counts.events
+      → ReadAsFarAs12 s r (with_names p n) pre post excited
+  unfolding known_names
+  reads_12 (Err why) h k = rw k (record { verdict = h.verdict; judged = refuses why })
+  reads_12 (Ok u) h k = rw k h
 
-  abbrev names : List B.Name
-  names = names_in s p.name_at p.name_len n
+  pub rows_12 : (r : Std.Result (Unit {0}) D.Refusal) → ReadAsFarAs12 s r p pre post excited → n ≡ known_names r p.counts.events → NameRows s (with_names p n)
+  unfolding known_names
+  rows_12 (Err why) h k = rw k (no_rows s p)
+  rows_12 (Ok u) h k = rw k (held_rows (past_text h refl).past.held)
 
-  pub events_12 : (ws : List (List ℕ)) → map (printed_run s) (events_said names ws) ≡ map (printed_run s) (events_said (names_of (as_far_as7 s)) ws)
-  events_12 ws = go r refl
-    where
-      go : (v : Rows.Verdict) → r ≡ v → map (printed_run s) (events_said names ws) ≡ map (printed_run s) (events_said (names_of (as_far_as7 s)) ws)
-      go (Refused why) e =
-          alike_printed (printed_run s) (written_refusal (tabled why)) (run_refused s (refused_text h e)) (alike_events names (names_of (as_far_as7 s)) ws)
-      go Passed e =
-          let j = past_text h e in
-          ap (λ (x : List B.Name). map (printed_run s) (events_said x ws))
-          (held_names j.past.held (all_known k e) ∙ names_passed (passes_7 s j.past.held.value (past_12 j)))
+  pub events_12 : (r : Std.Result (Unit {0}) D.Refusal) → ReadAsFarAs12 s r p pre post excited → n ≡ known_names r p.counts.events → (ws : List (List ℕ))
+      → map (printed_run s) (events_said (row_names s (with_names p n)) ws) ≡ map (printed_run s) (events_said (names_of (as_far_as7 s)) ws)
+  unfolding known_names
+  events_12 (Err why) h k ws =
+      alike_printed (printed_run s) (written_refusal (tabled why)) (run_refused s (refused_text h refl))
+      (alike_events (row_names s (with_names p n)) (names_of (as_far_as7 s)) ws)
+  events_12 (Ok u) h k ws =
+      let j = past_text h refl in
+      rw k
+      (ap (λ (x : List B.Name). map (printed_run s) (events_said x ws))
+      (told_names s j.past.held.value p j.past.held.told ∙ names_passed (passes_7 s j.past.held.value (past_12 j))))
 
 -- ---- one event
 

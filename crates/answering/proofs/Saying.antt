@@ -1,34 +1,51 @@
 -- What is left to be printed, by what the words say.
 use Prim.Native.Nat.{ℕ, ◌<◌}
 use mathlib.Core.Path.{◌≡◌, refl, ap, sym, ◌∙◌, subst}
+use mathlib.Core.Logic.{◌⊎◌, inl, inr}
 use mathlib.Core.List.{List, [], ◌∷◌, flat_map}
 use mathlib.Core.Option.{Option, none, some, map}
-use lib.ListN.{length, take}
+use native.Mathlib.Omega.{arith}
+use lib.ListN.{length, take, length-take}
+use lib.Seq.{length-take-le}
 use Rattle.model.specs.BoardTable.{ended}
-use Rattle.model.specs.Printed.{printed_thin, printed_board}
-use Rattle.printing.proofs.Checking.{whole_sheet}
-use Rattle.printing.specs.Shown.{Shows}
-use Rattle.command_line.specs.declared.Said.{Said}
-use Rattle.command_line.specs.declared.Said.TheVariants.{Neither, Number}
+use Rattle.model.specs.Refusal.{Checked}
+use Rattle.model.specs.Services.{check, merge, quote}
+use Rattle.model.specs.Board.{rewrite}
+use Rattle.model.specs.Printed.{printed_check, printed_merge, printed_quote, printed_sheet, printed_thin, printed_board}
+use Rattle.printing.proofs.Checking.{check_printed, merge_printed, quote_printed, sheet_printed, whole_sheet}
+use Rattle.printing.specs.Shown.{Shows, lent_line}
+use Rattle.std.specs.Prelude.{Some, None, unwrap_or}
+use Rattle.std.specs.Prelude as Std
 use Rattle.command_line.specs.declared.Service.{Service}
-use Rattle.command_line.specs.declared.Service.TheVariants.{Check, Thin, Board}
+use Rattle.command_line.specs.declared.Service.TheVariants.{Check, Merge, Quote, Sheet, Thin, Board, Help, Explain, Unknown}
 use Rattle.command_line.specs.Words.{said}
 use Rattle.command_line.specs.WordRow.{words_in, list_said, Lists}
 use Rattle.command_line.specs.Program.{size_said, answer_thin, answer_by, answer_to, output_of, service_asked, further_words}
-use Rattle.command_line.proofs.Cutting.{Some, words, no_words, some_words}
+use Rattle.command_line.proofs.Cutting.{words, no_words, some_words}
+use Rattle.command_line.proofs.Cutting as Cutting
 
 -- the same answer, whatever it is called
-pub shows_answer : {o q : Option (List ℕ)} {n : ℕ} {out : List ℕ} → o ≡ q → Shows (output_of o) n out → Shows (output_of q) n out
-shows_answer {n = n} {out} e w = subst (λ (x : Option (List ℕ)). Shows (output_of x) n out) e w
+pub shows_answer : {o q : Option (List ℕ)} {r : Std.Option ℕ} {out : List ℕ} → o ≡ q → Lists o r out → Lists q r out
+shows_answer {r = r} {out} e w = subst (λ (x : Option (List ℕ)). Lists x r out) e w
 
--- no byte where there is no answer
-pub shows_none : {o : Option (List ℕ)} {out : List ℕ} → none ≡ o → length out ≡ 32768 → Shows (output_of o) 0 out
-unfolding output_of
-shows_none e h = shows_answer e (record { size = refl; shown = refl; buffer = h })
+pub shows_none : {o : Option (List ℕ)} {out : List ℕ} → none ≡ o → Lists o None out
+unfolding list_said
+shows_none e = record { list = e; within = λ n q. cc }
 
-pub shows_some : {word : List ℕ} {o : Option (List ℕ)} {n : ℕ} {out : List ℕ} → some word ≡ o → Shows word n out → Shows (output_of o) n out
-unfolding output_of
-shows_some e w = shows_answer e w
+pub shows_some : {word : List ℕ} {o : Option (List ℕ)} {n : ℕ} {out : List ℕ} → some word ≡ o → Shows word n out → Lists o (Some n) out
+unfolding list_said
+shows_some {word} {o} {n} {out} e w =
+    record {
+      list = ap some w.shown ∙ e;
+      within = λ k q. let z : n ≡ k = cc in omega (arith, w.size, ap length w.shown, length-take n out);
+    }
+
+-- as bytes of the buffer: none where there is no answer
+pub answer_shown : {o : Option (List ℕ)} {r : Std.Option ℕ} {out : List ℕ} → Lists o r out → length out ≡ 32768 → Shows (output_of o) (unwrap_or r 0) out
+unfolding list_said output_of
+answer_shown {r = None} {out} l h = subst (λ (x : Option (List ℕ)). Shows (output_of x) 0 out) l.list (record { size = refl; shown = refl; buffer = h })
+answer_shown {r = Some n} {out} l h =
+    subst (λ (x : Option (List ℕ)). Shows (output_of x) n out) l.list (record { size = sym (length-take-le n out (l.within n refl)); shown = refl; buffer = h })
 
 -- nothing is printed, or f with what the words say
 pub printed_none : {A : Type 0} (f : A → List ℕ) {o : Option A} → none ≡ o → none ≡ map f o
@@ -37,14 +54,38 @@ printed_none f e = ap (map f) e
 pub printed_some : {A : Type 0} (f : A → List ℕ) {a : A} {o : Option A} → some a ≡ o → some (f a) ≡ map f o
 printed_some f e = ap (map f) e
 
+-- the same is printed of whatever is said
+pub printed_same : {A : Type 0} (f g : A → List ℕ) → ((a : A) → f a ≡ g a) → (o : Option A) → map f o ≡ map g o
+printed_same f g h none = refl
+printed_same f g h (some a) = ap some (h a)
+
 -- a word is a number, or none
-pub says_none : {r : Said} {o : Option ℕ} → r ≡ Neither → said r ≡ o → none ≡ o
+pub says_none : {r : Std.Option ℕ} {o : Option ℕ} → r ≡ None → said r ≡ o → none ≡ o
 unfolding said
 says_none e q = sym (ap said e) ∙ q
 
-pub says_some : {r : Said} {k : ℕ} {o : Option ℕ} → r ≡ Number k → said r ≡ o → some k ≡ o
+pub says_some : {r : Std.Option ℕ} {k : ℕ} {o : Option ℕ} → r ≡ Some k → said r ≡ o → some k ≡ o
 unfolding said
 says_some e q = sym (ap said e) ∙ q
+
+-- ---- calls that lend bytes
+
+module _ (s out : List ℕ) (h : length out ≡ 32768) (ws : List (List ℕ)) {a : Checked ℕ} {left : List ℕ} where
+  pub check_said : (a ≡ (check s out).answer) × (left ≡ (check s out).left) → map (λ n. lent_line n a left) (size_said 32768 ws) ≡ answer_by Check ws s
+  unfolding answer_by
+  check_said l = printed_same (λ n. lent_line n a left) (printed_check s) (λ n. check_printed s out h n l) (size_said 32768 ws)
+
+  pub merge_said : (a ≡ (merge s out).answer) × (left ≡ (merge s out).left) → map (λ n. lent_line n a left) (size_said 32768 ws) ≡ answer_by Merge ws s
+  unfolding answer_by
+  merge_said l = printed_same (λ n. lent_line n a left) (printed_merge s) (λ n. merge_printed s out h n l) (size_said 32768 ws)
+
+  pub quote_said : (a ≡ (quote s out).answer) × (left ≡ (quote s out).left) → map (λ n. lent_line n a left) (size_said 32768 ws) ≡ answer_by Quote ws s
+  unfolding answer_by
+  quote_said l = printed_same (λ n. lent_line n a left) (printed_quote s) (λ n. quote_printed s out h n l) (size_said 32768 ws)
+
+  pub sheet_said : (a ≡ (rewrite s out).answer) × (left ≡ (rewrite s out).left) → map (λ n. lent_line n a left) (size_said 32768 ws) ≡ answer_by Sheet ws s
+  unfolding answer_by
+  sheet_said l = printed_same (λ n. lent_line n a left) (printed_sheet s) (λ n. sheet_printed s out h n l) (size_said 32768 ws)
 
 -- ---- thin
 
@@ -56,7 +97,7 @@ pub thin_more : (row s : List ℕ) → 0 < length row → none ≡ answer_by Thi
 unfolding answer_by answer_thin
 thin_more row s h = go (some_words row h)
   where
-    go : Some (words_in row) → none ≡ answer_thin (words_in row) s
+    go : Cutting.Some (words_in row) → none ≡ answer_thin (words_in row) s
     go (words w vs e) = sym (ap (λ (ws : List (List ℕ)). answer_thin ws s) e)
 
 -- ---- board
@@ -86,11 +127,18 @@ answered ws {vs} s {asked} e q =
 pub asked_as : {asked a : Service} (ws : List (List ℕ)) (s : List ℕ) → asked ≡ a → answer_by a ws s ≡ answer_by asked ws s
 asked_as ws s e = ap (λ (x : Service). answer_by x ws s) (sym e)
 
--- words are a list of numbers, or none
-pub lists_none : {r : Said} {o : Option (List ℕ)} {row : List ℕ} → r ≡ Neither → Lists o r row → none ≡ o
-unfolding list_said
-lists_none {row = row} e l = sym (ap (λ (x : Said). list_said x row) e) ∙ l.list
+-- what is no service of the library's
+pub no_service : {asked : Service} (ws : List (List ℕ)) (s : List ℕ) → (asked ≡ Help) ⊎ ((asked ≡ Explain) ⊎ (asked ≡ Unknown)) → none ≡ answer_by asked ws s
+unfolding answer_by
+no_service ws s (inl e) = asked_as ws s e
+no_service ws s (inr (inl e)) = asked_as ws s e
+no_service ws s (inr (inr e)) = asked_as ws s e
 
-pub lists_some : {r : Said} {k : ℕ} {o : Option (List ℕ)} {row : List ℕ} → r ≡ Number k → Lists o r row → some (take k row) ≡ o
+-- words are a list of numbers, or none
+pub lists_none : {r : Std.Option ℕ} {o : Option (List ℕ)} {row : List ℕ} → r ≡ None → Lists o r row → none ≡ o
 unfolding list_said
-lists_some {row = row} e l = sym (ap (λ (x : Said). list_said x row) e) ∙ l.list
+lists_none {row = row} e l = sym (ap (λ (x : Std.Option ℕ). list_said x row) e) ∙ l.list
+
+pub lists_some : {r : Std.Option ℕ} {k : ℕ} {o : Option (List ℕ)} {row : List ℕ} → r ≡ Some k → Lists o r row → some (take k row) ≡ o
+unfolding list_said
+lists_some {row = row} e l = sym (ap (λ (x : Std.Option ℕ). list_said x row) e) ∙ l.list

@@ -1,8 +1,7 @@
 -- How many names of a text count: none where it is refused.
-use Rattle.std.specs.Prelude.{ℕ}
-use Rattle.rows.specs.declared.Verdict.{Verdict}
-use Rattle.rows.specs.declared.Verdict.TheVariants.{Refused, Passed}
+use Rattle.std.specs.Prelude.{ℕ, Result, Ok, Err}
+use Rattle.model.specs.declared.Refusal as D
 
-unfoldable pub known_names : Verdict → ℕ → ℕ
-known_names (Refused why) events = 0
-known_names Passed events = events
+unfoldable pub known_names : Result (Unit {0}) D.Refusal → ℕ → ℕ
+known_names (Err why) events = 0
+known_names (Ok _) events = events

@@ -1,171 +1,116 @@
 // What the program answers to the words of its command line and the text, or the sheet, on its standard input.
 #![tactic(auto)]
 
-ghost use Rattle.std.specs.Prelude.{◌≡◌, length};
-ghost use Rattle.printing.specs.Shown.{Shows};
-ghost use Rattle.command_line.specs.declared.Service.TheVariants.{Check, Steps, Name, Run, Thin, Merge, Quote, Sheet, Board};
-ghost use Rattle.command_line.specs.WordRow.{words_in, EachEnded};
+ghost use Rattle.std.specs.Prelude.{◌≡◌};
+ghost use Rattle.std.proofs.Math.Option.{map};
+ghost use Rattle.printing.specs.Shown.{answered, FitsBuffer, lent_line};
+ghost use Rattle.command_line.specs.declared.Service.TheVariants.{Name, Run};
+ghost use Rattle.command_line.specs.WordRow.{words_in, EachEnded, Lists};
+ghost use Rattle.command_line.specs.Program.{size_said, answer_by, answer_to};
 ghost use Rattle.answering.specs.Known.{known_names};
-ghost use Rattle.command_line.specs.Program.{answer_by, answer_to, output_of};
 
 use command_line::{
-    Said, Service, events_said, names_said, one_event_said, second_word, service_asked, size_said,
+    Service, events_said, names_said, one_event_said, second_word, service_asked, size_said,
 };
-use model::{MAX_TEXT, MAX_TRANSITIONS};
+use model::{MAX_TEXT, MAX_TRANSITIONS, Refusal};
 use printing::{
-    print_board, print_check, print_merge, print_name, print_quote, print_run, print_sheet,
-    print_steps, print_thin,
+    check, merge, print_board, print_lent, print_name, print_run, print_steps, print_thin, quote,
+    sheet,
 };
-use rows::Verdict;
-use stages::{check_plan, check_split};
+use rows::{Moves, Tables};
+use stages::{EXCITATION_WORDS, read_as_far_as_7, read_as_far_as_12};
 
-// The words after the service lie in a row, each ended by byte 0. What is printed stands at the beginning of the buffer, so many bytes; none if the
+// The words after the service lie in a row, each ended by byte 0. What is printed stands at the beginning of the buffer, so many bytes; None if the
 // words ask for nothing that can be answered.
 
-fn answer_check(words: &[u8], text: &[u8], out: &mut [u8]) -> usize
-    requires { length out.old ≡ 32768 }
-    ensures { Shows (output_of (answer_by Check (words_in words.now) text.now)) result out.new }
+// What a call has left in the buffer, with so many bytes lent as the words say.
+fn answer_lent(
+    answer: Result<usize, Refusal>,
+    words: &[u8],
+    out: &mut [u8; MAX_TEXT],
+) -> Option<usize>
+    requires { FitsBuffer (answered answer) }
+    ensures { Lists (map (λ lent. lent_line lent (answered answer) out.old) (size_said 32768 (words_in words.now))) result out.new }
 {
-    let Said::Number(lent) = size_said(words, MAX_TEXT) else {
-        return 0;
-    };
-    print_check(text, lent, out)
-}
-
-fn answer_steps(words: &[u8], text: &[u8], out: &mut [u8]) -> usize
-    requires { length out.old ≡ 32768 }
-    ensures { Shows (output_of (answer_by Steps (words_in words.now) text.now)) result out.new }
-{
-    let Said::Number(lent) = size_said(words, MAX_TRANSITIONS) else {
-        return 0;
-    };
-    print_steps(text, lent, out)
+    let lent = size_said(words, MAX_TEXT)?;
+    Some(print_lent(answer, lent, out))
 }
 
 // The names of a text that is refused count for nothing.
-fn known_names(verdict: Verdict, events: usize) -> usize
-    ensures { result ≡ known_names verdict events }
+#[tactic(auto, unfolding(crate::specs::Known::known_names))]
+fn known_names(read: Result<(), Refusal>, events: usize) -> usize
+    ensures { result ≡ known_names read events }
 {
-    if let Verdict::Refused(_) = verdict {
-        return 0;
+    match read {
+        Ok(()) => events,
+        Err(_) => 0,
     }
-    events
 }
 
-fn answer_name(words: &[u8], text: &[u8], out: &mut [u8]) -> usize
-    requires { length out.old ≡ 32768 }
-    ensures { Shows (output_of (answer_by Name (words_in words.now) text.now)) result out.new }
+fn answer_name(words: &[u8], text: &[u8], out: &mut [u8; MAX_TEXT]) -> Option<usize>
+    ensures { Lists (answer_by Name (words_in words.now) text.now) result out.new }
 {
-    let plan = check_plan(text);
-    let verdict = plan.verdict;
-    let names = known_names(verdict, plan.tables.counts.events);
-    let said = one_event_said(
-        words,
-        text,
-        &plan.tables.name_at,
-        &plan.tables.name_len,
-        names,
-    );
-    let Said::Number(event) = said else {
-        return 0;
-    };
-    print_name(plan, text, event, out)
+    let mut plan = Tables::fresh();
+    let read = read_as_far_as_7(text, &mut plan);
+    plan.counts.events = known_names(read, plan.counts.events);
+    let event = one_event_said(words, text, &plan)?;
+    Some(print_name(read, &plan, text, event, out))
 }
 
 // The events take the place of the words.
-fn answer_run(words: &mut [u8], text: &[u8], out: &mut [u8]) -> usize
-    requires { length out.old ≡ 32768 }
-    ensures { Shows (output_of (answer_by Run (words_in words.old) text.now)) result out.new }
+#[tactic(auto, using(stages::proofs::Stages::fresh_moves))]
+fn answer_run(words: &mut [u8], text: &[u8], out: &mut [u8; MAX_TEXT]) -> Option<usize>
+    ensures { Lists (answer_by Run (words_in words.old) text.now) result out.new }
 {
-    let split = check_split(text);
-    let verdict = split.verdict;
-    let names = known_names(verdict, split.tables.counts.events);
-    let said = events_said(
-        words,
-        text,
-        &split.tables.name_at,
-        &split.tables.name_len,
-        names,
-    );
-    let Said::Number(count) = said else {
-        return 0;
-    };
-    print_run(split, text, &words[..count], out)
+    let mut plan = Tables::fresh();
+    let mut moves = Moves::none();
+    let mut excited = [0u64; EXCITATION_WORDS];
+    let read = read_as_far_as_12(text, &mut plan, &mut moves, &mut excited);
+    plan.counts.events = known_names(read, plan.counts.events);
+    let count = events_said(words, text, &plan)?;
+    Some(print_run(read, &plan, &moves, text, &words[..count], out))
 }
 
-fn answer_thin(words: &[u8], text: &[u8], out: &mut [u8]) -> usize
-    requires { length out.old ≡ 32768 }
-    ensures { Shows (output_of (answer_by Thin (words_in words.now) text.now)) result out.new }
-{
-    if words.len() > 0 {
-        return 0;
-    }
-    print_thin(text, out)
-}
-
-fn answer_merge(words: &[u8], text: &[u8], out: &mut [u8]) -> usize
-    requires { length out.old ≡ 32768 }
-    ensures { Shows (output_of (answer_by Merge (words_in words.now) text.now)) result out.new }
-{
-    let Said::Number(size) = size_said(words, MAX_TEXT) else {
-        return 0;
-    };
-    print_merge(text, size, out)
-}
-
-fn answer_quote(words: &[u8], text: &[u8], out: &mut [u8]) -> usize
-    requires { length out.old ≡ 32768 }
-    ensures { Shows (output_of (answer_by Quote (words_in words.now) text.now)) result out.new }
-{
-    let Said::Number(bytes) = size_said(words, MAX_TEXT) else {
-        return 0;
-    };
-    print_quote(text, bytes, out)
-}
-
-fn answer_sheet(words: &[u8], sheet: &[u8], out: &mut [u8]) -> usize
-    requires { length out.old ≡ 32768 }
-    ensures { Shows (output_of (answer_by Sheet (words_in words.now) sheet.now)) result out.new }
-{
-    let Said::Number(room) = size_said(words, MAX_TEXT) else {
-        return 0;
-    };
-    print_sheet(sheet, room, out)
-}
-
-// The names take the place of the words: as many bytes, since byte 10 ends a name where byte 0 ended a word.
-fn answer_board(words: &mut [u8], sheet: &[u8], out: &mut [u8]) -> usize
-    requires { (length out.old ≡ 32768) × EachEnded words.old }
-    ensures { Shows (output_of (answer_by Board (words_in words.old) sheet.now)) result out.new }
-{
-    names_said(words);
-    print_board(sheet, words, out)
-}
-
-fn answer_by(asked: Service, words: &mut [u8], text: &[u8], out: &mut [u8]) -> usize
-    requires { (length out.old ≡ 32768) × EachEnded words.old }
-    ensures { Shows (output_of (answer_by asked (words_in words.old) text.now)) result out.new }
+// A match and no table of functions, since the services take different things. A board's names take the place of the words: as many bytes, since byte 10 ends a name where byte 0 ended a word.
+fn answer_by(
+    asked: Service,
+    words: &mut [u8],
+    text: &[u8],
+    out: &mut [u8; MAX_TEXT],
+) -> Option<usize>
+    requires { EachEnded words.old }
+    ensures { Lists (answer_by asked (words_in words.old) text.now) result out.new }
 {
     match asked {
-        Service::Check => answer_check(words, text, out),
-        Service::Steps => answer_steps(words, text, out),
+        Service::Check => answer_lent(check(text, out), words, out),
+        Service::Merge => answer_lent(merge(text, out), words, out),
+        Service::Quote => answer_lent(quote(text, out), words, out),
+        Service::Sheet => answer_lent(sheet(text, out), words, out),
+        Service::Steps => {
+            let lent = size_said(words, MAX_TRANSITIONS)?;
+            Some(print_steps(text, lent, out))
+        }
         Service::Name => answer_name(words, text, out),
         Service::Run => answer_run(words, text, out),
-        Service::Thin => answer_thin(words, text, out),
-        Service::Merge => answer_merge(words, text, out),
-        Service::Quote => answer_quote(words, text, out),
-        Service::Sheet => answer_sheet(words, text, out),
-        Service::Board => answer_board(words, text, out),
-        Service::Help => 0,
-        Service::Explain => 0,
-        Service::Unknown => 0,
+        Service::Thin => {
+            if words.is_empty() {
+                Some(print_thin(text, out))
+            } else {
+                None
+            }
+        }
+        Service::Board => {
+            names_said(words);
+            Some(print_board(text, words, out))
+        }
+        Service::Help | Service::Explain | Service::Unknown => None,
     }
 }
 
 // Any words, and any text or sheet. The row of words is written over.
-pub fn answer(words: &mut [u8], text: &[u8], out: &mut [u8]) -> usize
-    requires { (length out.old ≡ 32768) × EachEnded words.old }
-    ensures { Shows (output_of (answer_to (words_in words.old) text.now)) result out.new }
+pub fn answer(words: &mut [u8], text: &[u8], out: &mut [u8; MAX_TEXT]) -> Option<usize>
+    requires { EachEnded words.old }
+    ensures { Lists (answer_to (words_in words.old) text.now) result out.new }
 {
     let asked = service_asked(words);
     let at = second_word(words);

@@ -6,12 +6,12 @@ use mathlib.Core.List.{List, ◌++◌}
 use borrow.Author.Tests.{le-leb, lt-leb}
 use lib.ListN.{length, drop}
 use lib.Seq.{sets, sets-eq}
+use Rattle.std.specs.Prelude.{Result, Ok, Err}
+use Rattle.model.specs.declared.Refusal as D
 use Rattle.model.specs.declared.Refusal.TheVariants.{BufferTooShort}
 use Rattle.model.specs.Cases.{tabled}
 use Rattle.model.specs.Refusal.{refuse, refused, passed}
 use Rattle.model.specs.Services.{lend}
-use Rattle.answers.specs.declared.Answer.{Answer}
-use Rattle.answers.specs.declared.Answer.TheVariants.{Refused, Accepted}
 use Rattle.answers.specs.Answers.{answered}
 
 module _ {A : Type 0} (xs out : List A) where
@@ -30,13 +30,13 @@ lent out xs h = let z : 0 + length xs ≡ length xs = omega arith in sets-eq xs 
 -- bytes, by whether they fit
 module _ (out xs : List ℕ) (size : ℕ) (e : size ≡ length xs) where
   -- this is what lending answers and leaves
-  abbrev pub Lends : Answer → List ℕ → Type 0
+  abbrev pub Lends : Result ℕ D.Refusal → List ℕ → Type 0
   Lends a left = (answered a ≡ (lend (passed xs) out).answer) × (left ≡ (lend (passed xs) out).left)
 
-  pub lends_short : length out < size → Lends (Refused (BufferTooShort size)) out
+  pub lends_short : length out < size → Lends (Err (BufferTooShort size)) out
   unfolding answered tabled
   lends_short l = rw (lent_none xs out (rw e at l), e) (refl, refl)
 
-  pub lends_written : (left : List ℕ) → size ≤ length out → left ≡ sets out 0 xs → Lends (Accepted size) left
+  pub lends_written : (left : List ℕ) → size ≤ length out → left ≡ sets out 0 xs → Lends (Ok size) left
   unfolding answered
   lends_written left l w = let fits = rw e at l in rw (lent_all xs out fits, e) (refl, w ∙ lent out xs fits)

@@ -6,19 +6,19 @@ ghost use Rattle.model.specs.Board as Board;
 ghost use Rattle.flat.specs.Flat.{flat_answer, flat_run};
 
 use board_service::{board, sheet};
-use flat::{FlatAnswer, FlatRun, flat_answer, flat_run};
+use flat::{FlatAnswer, FlatRun};
 
 #[unsafe(no_mangle)]
 pub extern "C" fn board_sheet(bytes: &[u8], out: &mut [u8]) -> FlatAnswer
     ensures value { result ≡ flat_answer (Board.rewrite bytes.now out.old).answer }
     ensures out_after { out.new ≡ (Board.rewrite bytes.now out.old).left }
 {
-    flat_answer(sheet(bytes, out))
+    FlatAnswer::from(sheet(bytes, out))
 }
 
 #[unsafe(no_mangle)]
 pub extern "C" fn board_run(bytes: &[u8], names: &[u8]) -> FlatRun
     ensures { result ≡ flat_run (Board.board_run bytes.now names.now) }
 {
-    flat_run(board(bytes, names))
+    FlatRun::from(board(bytes, names))
 }

@@ -1,26 +1,23 @@
 -- The calls on a sheet, by their ways out.
+use Rattle.std.specs.Prelude.{Result, Ok, Err}
+use Rattle.model.specs.declared.Refusal as R
 use Prim.Native.Nat.{ℕ, ◌<◌, ◌≤◌}
 use native.Mathlib.Omega.{arith}
-use mathlib.Core.Path.{◌≡◌, refl, ap, sym, ◌∙◌, subst}
+use mathlib.Core.Path.{◌≡◌, refl, ap, sym, ◌∙◌}
 use mathlib.Core.List.{List}
 use lib.ListN.{length}
 use lib.Seq.{sets}
 use Rattle.model.specs.declared.Refusal.TheVariants.{BadSheet, BufferTooShort}
 use Rattle.model.specs.Cases.{tabled}
-use Rattle.model.specs.Refusal.{refuse, Checked, refused, passed}
+use Rattle.model.specs.Refusal.{Checked, refused, passed}
 use Rattle.model.specs.Sheet.{Board}
 use Rattle.model.specs.Services.{ran_answer, lend}
 use Rattle.model.specs.Board.{read_sheet, rewrite, start_places, board_run}
 use Rattle.model.proofs.BoardCalls.{loading}
 use Rattle.model.proofs.Verdicts.{refused_passed, same_passed}
 use Rattle.rows.specs.Rows.{row}
-use Rattle.sheet_reader.specs.declared.SheetRead.{SheetRead}
-use Rattle.sheet_reader.specs.declared.SheetRead.TheVariants.{Bad, Read}
 use Rattle.sheet_reader.specs.Lent.{Lent}
-use Rattle.sheet_reader.specs.Lines.{Told}
 use Rattle.sheet_reader.specs.Sheets.{SheetLeft, ReadsSheet}
-use Rattle.answers.specs.declared.Answer.{Answer}
-use Rattle.answers.specs.declared.Answer.TheVariants as A
 use Rattle.answers.specs.Answers.{answered}
 use Rattle.answers.proofs.Lending.{lends_short, lends_written}
 use Rattle.product.specs.declared.RunAnswer as D
@@ -29,14 +26,13 @@ use Rattle.board_service.specs.Boards.{Loaded, RunsNames, RunsBoard}
 
 -- ---- what was read
 
-pub bad_read : {s : List ℕ} {r : SheetRead} {u : Lent} {places : List ℕ} → ReadsSheet s r u places → {line : ℕ} → r ≡ Bad line
-    → read_sheet s ≡ refused (tabled (BadSheet line))
+pub bad_read : {s : List ℕ} {count : ℕ} {u : Lent} {places : List ℕ} {why : R.Refusal} → ReadsSheet s (Err why) count u places → read_sheet s ≡ refused (tabled why)
 unfolding SheetLeft tabled
-bad_read {s} {r} {u} {places} a {line} q = go (read_sheet s) a.left
+bad_read {s} {count} {u} {places} {why} a = go (read_sheet s) a.left
   where
-    go : (c : Checked Board) → SheetLeft c r u places → c ≡ refused (refuse 15 line 0)
-    go (refused v) (l, e, f) = let z : l ≡ line = cc in ap {B = Checked Board} refused (f ∙ ap (λ (x : ℕ). refuse 15 x 0) z)
-    go (passed b) (names, e, few, many, told, starts) = let z : ◌≡◌ {A = ℕ} 0 1 = cc in absurd (omega arith)
+    go : (c : Checked Board) → SheetLeft c (Err why) count u places → c ≡ refused (tabled why)
+    go (refused v) (l, e, f) = let z : why ≡ BadSheet l = cc in rw z (ap {B = Checked Board} refused f)
+    go (passed b) (e, few, many, told, starts) = cc
 
 -- the machines of a good sheet
 pub record GoodRead (s : List ℕ) (machines count : ℕ) (u : Lent) (places : List ℕ) : Type 0 where
@@ -48,35 +44,33 @@ pub record GoodRead (s : List ℕ) (machines count : ℕ) (u : Lent) (places : L
   pub loaded : Loaded board count u
   pub starts : places ≡ row 16 0 (start_places board)
 
-pub good_read : {s : List ℕ} {r : SheetRead} {u : Lent} {places : List ℕ} → ReadsSheet s r u places → {machines count : ℕ} → r ≡ Read machines count
-    → GoodRead s machines count u places
+pub good_read : {s : List ℕ} {machines count : ℕ} {u : Lent} {places : List ℕ} → ReadsSheet s (Ok machines) count u places → GoodRead s machines count u places
 unfolding SheetLeft
-good_read {s} {r} {u} {places} a {machines} {count} q = go (read_sheet s) refl a.left
+good_read {s} {machines} {count} {u} {places} a = go (read_sheet s) refl a.left
   where
-    go : (c : Checked Board) → read_sheet s ≡ c → SheetLeft c r u places → GoodRead s machines count u places
-    go (refused v) h (l, e, f) = let z : ◌≡◌ {A = ℕ} 0 1 = cc in absurd (omega arith)
-    go (passed b) h (names, e, few, many, told, starts) =
+    go : (c : Checked Board) → read_sheet s ≡ c → SheetLeft c (Ok machines) count u places → GoodRead s machines count u places
+    go (refused v) h (l, e, f) = cc
+    go (passed b) h (e, few, many, told, starts) =
         let m : length b ≡ machines = cc in
-        let n : names ≡ count = cc in
         record {
           board = b;
           read = h;
           counted = sym m;
           few = omega arith;
-          names = omega arith;
-          loaded = record { sheet = s; says = ((loading s).accepts b).0 h; told = subst (λ (k : ℕ). Told b k u) n told };
+          names = many;
+          loaded = record { sheet = s; says = ((loading s).accepts b).0 h; told = told };
           starts = starts;
         }
 
 -- ---- the run
 
-pub board_bad : (s t : List ℕ) (line : ℕ) → read_sheet s ≡ refused (tabled (BadSheet line)) → {r : D.RunAnswer} → run_answer r ≡ ran_answer (refused (tabled (BadSheet line)))
+pub board_bad : (s t : List ℕ) (why : R.Refusal) → read_sheet s ≡ refused (tabled why) → {r : D.RunAnswer} → run_answer r ≡ ran_answer (refused (tabled why))
     → RunsBoard s t 0 r
 unfolding board_run
-board_bad s t line e q =
+board_bad s t why e q =
     record {
       runs = rw e q;
-      counted = λ b f. absurd (refused_passed (tabled (BadSheet line)) b (sym e ∙ f));
+      counted = λ b f. absurd (refused_passed (tabled why) b (sym e ∙ f));
       no_machines_lem = λ q f. refl;
     }
 
@@ -92,12 +86,12 @@ board_good g t f =
 
 -- ---- the machines written again
 
-abbrev Rewrites : List ℕ → List ℕ → Answer → List ℕ → Type 0
+abbrev Rewrites : List ℕ → List ℕ → Result ℕ R.Refusal → List ℕ → Type 0
 Rewrites s out a left = (answered a ≡ (rewrite s out).answer) × (left ≡ (rewrite s out).left)
 
-pub sheet_bad : (s out : List ℕ) (line : ℕ) → read_sheet s ≡ refused (tabled (BadSheet line)) → Rewrites s out (A.Refused (BadSheet line)) out
+pub sheet_bad : (s out : List ℕ) (why : R.Refusal) → read_sheet s ≡ refused (tabled why) → Rewrites s out (Err why) out
 unfolding answered rewrite lend
-sheet_bad s out line e = rw e (refl, refl)
+sheet_bad s out why e = rw e (refl, refl)
 
 module _ {s : List ℕ} {machines count : ℕ} {u : Lent} {places : List ℕ} (g : GoodRead s machines count u places) (out : List ℕ) where
   -- the machines write the sheet's own bytes
@@ -105,8 +99,8 @@ module _ {s : List ℕ} {machines count : ℕ} {u : Lent} {places : List ℕ} (g
   unfolding rewrite
   own = rw g.read (ap (λ (x : List ℕ). lend (passed x) out) (sym (((loading s).accepts g.board).0 g.read).0))
 
-  pub sheet_short : length out < length s → Rewrites s out (A.Refused (BufferTooShort (length s))) out
+  pub sheet_short : length out < length s → Rewrites s out (Err (BufferTooShort (length s))) out
   sheet_short l = rw own (lends_short out s (length s) refl l)
 
-  pub sheet_written : (left : List ℕ) → length s ≤ length out → left ≡ sets out 0 s → Rewrites s out (A.Accepted (length s)) left
+  pub sheet_written : (left : List ℕ) → length s ≤ length out → left ≡ sets out 0 s → Rewrites s out (Ok (length s)) left
   sheet_written left l w = rw own (lends_written out s (length s) refl left l w)

@@ -1,7 +1,9 @@
 -- The names of a list one after another on the machines of a sheet: the loop that runs them, and the answer at each of its ends.
+use Rattle.std.specs.Prelude as Std
+use Rattle.std.specs.Prelude.{Some, None}
 use Prim.Native.Nat.{ℕ, zero, suc, ◌+◌, ◌-◌, ◌<◌, ◌≤◌}
 use native.Mathlib.Omega.{arith}
-use mathlib.Core.Path.{◌≡◌, refl, ap, ap₂, sym, ◌∙◌, subst}
+use mathlib.Core.Path.{◌≡◌, refl, ap, ap₂, sym, ◌∙◌}
 use mathlib.Core.Logic.{◌⊎◌, inl, inr}
 use mathlib.Core.Bool.{not, ◌&&◌}
 use mathlib.Core.List.{List, [], ◌∷◌, ◌++◌, map}
@@ -13,7 +15,7 @@ use Rattle.model.specs.declared.Refusal.TheVariants.{UnknownEvent}
 use Rattle.model.specs.Cases.{tabled}
 use Rattle.model.specs.Lists.{every, index, is_empty, numbers, Pairwise}
 use Rattle.model.specs.Refusal.{refused, passed}
-use Rattle.model.specs.Product.{Move, Ran, effective, run_from}
+use Rattle.model.specs.Product.{Move, Ran, effective, run_from, blocker}
 use Rattle.model.specs.Bytes.{Name}
 use Rattle.model.specs.Text.{event_number}
 use Rattle.model.specs.Sheet.{NamedLine, Board}
@@ -32,14 +34,11 @@ use Rattle.product.specs.Answers.{outcome_is, run_answer}
 use Rattle.product.specs.Stepping.{Steps, IsOn, IsPadded}
 use Rattle.product.proofs.Firing.{step_moves, step_blocks, still_padded}
 use Rattle.product.proofs.Running.{after, after_none, after_one}
-use Rattle.board_service.specs.declared.name_list.NextName.{NextName}
-use Rattle.board_service.specs.declared.name_list.NextName.TheVariants.{Odd, Known}
-use Rattle.board_service.specs.declared.running.OddName.{OddName}
-use Rattle.board_service.specs.declared.running.OddName.TheVariants as O
+use Rattle.board_service.specs.declared.name_list.EventAt.{EventAt}
 use Rattle.board_service.specs.Listed.{ReadsName}
 use Rattle.board_service.specs.Boards.{names_from, odd_from, answer_of, Loaded, odd_is, FindsOdd, EndsBlocked, RunsNames}
 use Rattle.board_service.proofs.Knowing.{off_name, same_moves, on_rows}
-use Rattle.board_service.proofs.Seeking.{known_name, own_name, seek_more, seek_odd, seek_end}
+use Rattle.board_service.proofs.Seeking.{own_name, seek_more, seek_odd, seek_end}
 
 -- ---- the row of the start places
 
@@ -136,13 +135,13 @@ module _ {t : List ℕ} {machines count : ℕ} {u : Lent} {start : List ℕ} (mo
       }
 
   module _ {places : List ℕ} {ran i : ℕ} (inv : Going t machines count u start places ran i) where
-    pub going_odd : i < length t → {r : NextName} → ReadsName t i count u.lens u.highs u.lows r → r ≡ Odd
+    pub going_odd : i < length t → ReadsName t i count u.lens u.highs u.lows None
         → {a : RunAnswer} → a ≡ ran_answer (refused (tabled (UnknownEvent ran))) → RunsNames t machines count u start a
     unfolding answer_of tabled
-    going_odd h a q e = record {
+    going_odd h r e = record {
       runs = λ b o n z.
           e ∙ sym (ap (λ (k : Option ℕ). answer_of k (after ran (run_rows machines u o.told.names (take machines places) (names_from t i).0)))
-          (seek_odd o ran h (subst (ReadsName t i count u.lens u.highs u.lows) q a)))
+          (seek_odd o ran h r))
           ∙ (inv.rest b o n z).1;
     }
 
@@ -157,20 +156,17 @@ module _ {t : List ℕ} {machines count : ℕ} {u : Lent} {start : List ℕ} (mo
           ∙ e;
     }
 
-    module _ {r : NextName} (a : ReadsName t i count u.lens u.highs u.lows r) {e next : ℕ} (q : r ≡ Known e next) where
-      known : ReadsName t i count u.lens u.highs u.lows (Known e next)
-      known = subst (ReadsName t i count u.lens u.highs u.lows) q a
-
-      pub going_low : e < count
-      going_low = (known_name known).low
-
-      pub going_on : (i < next) × (next ≤ length t)
-      going_on = ((known_name known).later, (known_name known).inside)
-
-      module _ {s : Stepped} (steps : Steps u.pre u.post machines places e s) where
+    module _ {x : EventAt} (known : ReadsName t i count u.lens u.highs u.lows (Some x)) where
+      module _ {s : Stepped} (steps : Steps u.pre u.post machines places x.event s) where
         module _ (b : Board) (o : Loaded b count u) (n : machines ≡ length b) where
+          abbrev e : ℕ
+          e = x.event
+
+          abbrev next : ℕ
+          next = x.next
+
           abbrev w : Name
-          w = (own_name o (known_name known).numbered).0
+          w = (own_name o known.found.numbered).0
 
           abbrev later : List Name × List ℕ
           later = names_from t next
@@ -182,54 +178,55 @@ module _ {t : List ℕ} {machines count : ℕ} {u : Lent} {start : List ℕ} (mo
           moves = move_at u.pre u.post
 
           numbered : e ≡ event_number o.told.names w
-          numbered = (own_name o (known_name known).numbered).2
+          numbered = (own_name o known.found.numbered).2
 
           on : IsOn u.pre u.post machines e
-          on = on_rows o.told w n most e numbered going_low
+          on = on_rows o.told w n most e numbered known.found.low
 
           -- the names ahead begin with this one
           ahead : (qs : List ℕ) → run_rows machines u o.told.names qs (names_from t i).0 ≡ run_from moves (numbers machines) qs (e ∷ ds)
           ahead qs =
-              ap (λ (p : List Name × List ℕ). run_rows machines u o.told.names qs p.0) (names_more t i w next (own_name o (known_name known).numbered).1)
+              ap (λ (p : List Name × List ℕ). run_rows machines u o.told.names qs p.0) (names_more t i w next (own_name o known.found.numbered).1)
               ∙ ap (λ (x : ℕ). run_from moves (numbers machines) qs (x ∷ ds)) (sym numbered)
 
-          went : machines ≤ s.blocker → answer_from machines u o.told.names b ran (take machines places) (names_from t i)
+          went : s.blocker ≡ None → answer_from machines u o.told.names b ran (take machines places) (names_from t i)
               ≡ answer_from machines u o.told.names b (ran + 1) (take machines s.places) later
           went h =
               ap₂ answer_of (seek_more o ran known)
               (ap (after ran) (ahead (take machines places) ∙ run_goes moves (numbers machines) (take machines places) (take machines s.places) e ds (step_moves on steps h))
               ∙ after_one ran (run_from moves (numbers machines) (take machines s.places) ds))
 
-          halted : s.blocker < machines → answer_from machines u o.told.names b ran (take machines places) (names_from t i)
-              ≡ answer_of (odd_from b (ran + 1) later) (record { ran = ran; blocked = some s.blocker; places = take machines places })
-          halted h =
+          halted : (m : ℕ) → s.blocker ≡ Some m → answer_from machines u o.told.names b ran (take machines places) (names_from t i)
+              ≡ answer_of (odd_from b (ran + 1) later) (record { ran = ran; blocked = some m; places = take machines places })
+          halted m h =
               let z : ran + 0 ≡ ran = omega arith in
+              let who : m ≡ blocker moves (numbers machines) (take machines places) e = rw h at steps.blocker in
               ap₂ answer_of (seek_more o ran known)
-              (ap (after ran) (ahead (take machines places) ∙ run_stops moves (numbers machines) (take machines places) e ds (step_blocks on steps h)) ∙ rw (z, steps.blocker))
+              (ap (after ran) (ahead (take machines places) ∙ run_stops moves (numbers machines) (take machines places) e ds (step_blocks on steps m h)) ∙ rw (z, who))
 
-        pub going_more : machines ≤ s.blocker → Going t machines count u start s.places (ran + 1) next
+        pub going_more : s.blocker ≡ None → Going t machines count u start s.places (ran + 1) x.next
         going_more h =
             record {
-              inside = going_on.1;
-              ordered = omega (arith, going_on.0, inv.ordered);
+              inside = known.found.inside;
+              ordered = omega (arith, known.found.later, inv.ordered);
               size = steps.size;
               rest = λ b o n z.
                   let (pad, k) = inv.rest b o n z in
                   (still_padded most inv.size pad steps, sym (went b o n h) ∙ k);
             }
 
-        pub going_blocked : s.blocker < machines → {a : RunAnswer} → EndsBlocked t next count u.lens u.highs u.lows ran s.blocker s.places a
+        pub going_blocked : {m : ℕ} → s.blocker ≡ Some m → {a : RunAnswer} → EndsBlocked t x.next count u.lens u.highs u.lows ran m s.places a
             → RunsNames t machines count u start a
-        going_blocked h f = record {
+        going_blocked {m} h f = record {
           runs = λ b o n z.
               let (pad, k) = inv.rest b o n z in
-              f.ends b u.pre u.post (take machines places) o ((steps.halts h).1 ∙ pad) ∙ sym (halted b o n h) ∙ k;
+              f.ends b u.pre u.post (take machines places) o ((steps.halts m h).1 ∙ pad) ∙ sym (halted b o n m h) ∙ k;
         }
 
 -- ---- after a block
 
-module _ {t : List ℕ} {at count : ℕ} {lens highs lows : List ℕ} {ran machine : ℕ} {places : List ℕ} {r : OddName} (f : FindsOdd t at (ran + 1) count lens highs lows r) where
-  pub blocked_odd : {k : ℕ} → r ≡ O.At k → {a : RunAnswer} → a ≡ ran_answer (refused (tabled (UnknownEvent k)))
+module _ {t : List ℕ} {at count : ℕ} {lens highs lows : List ℕ} {ran machine : ℕ} {places : List ℕ} {r : Std.Option ℕ} (f : FindsOdd t at (ran + 1) count lens highs lows r) where
+  pub blocked_odd : {k : ℕ} → r ≡ Some k → {a : RunAnswer} → a ≡ ran_answer (refused (tabled (UnknownEvent k)))
       → EndsBlocked t at count lens highs lows ran machine places a
   unfolding answer_of tabled odd_is
   blocked_odd {k} q e = record {
@@ -237,7 +234,7 @@ module _ {t : List ℕ} {at count : ℕ} {lens highs lows : List ℕ} {ran machi
         e ∙ ap (λ (x : Option ℕ). answer_of x (record { ran = ran; blocked = some machine; places = qs })) (sym (ap odd_is q) ∙ f.odd b pre post o);
   }
 
-  pub blocked_fine : r ≡ O.None → EndsBlocked t at count lens highs lows ran machine places (run_answer (record { outcome = Blocked ran machine; places = places }))
+  pub blocked_fine : r ≡ None → EndsBlocked t at count lens highs lows ran machine places (run_answer (record { outcome = Blocked ran machine; places = places }))
   unfolding answer_of odd_is run_answer outcome_is ran_answer outcome_of
   blocked_fine q = record {
     ends = λ b pre post qs o p.

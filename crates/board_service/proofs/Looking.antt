@@ -1,7 +1,9 @@
 -- A name of the list and its number, by the ways out of the code.
+use Rattle.std.specs.Prelude.{Option, Some, None, unwrap_or}
+use Rattle.lexer.specs.declared.NameAt.{NameAt}
 use Prim.Native.Nat.{ℕ, ◌+◌, ◌<◌, ◌≤◌}
 use native.Mathlib.Omega.{arith}
-use mathlib.Core.Path.{◌≡◌, refl, ap, sym, ◌∙◌, subst}
+use mathlib.Core.Path.{◌≡◌, refl, ap, sym, ◌∙◌}
 use mathlib.Core.Logic.{inl, inr}
 use mathlib.Core.Bool.{Bool, true, ◌&&◌}
 use mathlib.Core.List.{List, [], ◌∷◌, ◌++◌}
@@ -16,29 +18,23 @@ use Rattle.model.proofs.OneEvent.{one_name}
 use Rattle.model.proofs.Words.{Spans, spans_part, by, lit_complete, name_complete, name_sound}
 use Rattle.lexer.proofs.Answers.{GotName}
 use Rattle.lexer.proofs.Moves.{moves_literal, moves_name}
-use Rattle.names.specs.Held.{Same, Finds}
+use Rattle.names.specs.Held.{Same}
 use Rattle.names.proofs.HeldNames.{entry_name, entry_same, entry_told}
 use Rattle.names.proofs.Lookup.{event_number_lem}
 use Rattle.quick_words.specs.Guessed.{Packs}
-use Rattle.board_service.specs.declared.name_list.QuickName.{QuickName}
-use Rattle.board_service.specs.declared.name_list.QuickName.TheVariants.{Verified}
-use Rattle.board_service.specs.declared.name_list.NextName.TheVariants.{Odd, Known}
-use Rattle.board_service.specs.Listed.{LooksUp, Numbered, KnownName, NameGuessed, NameFound, ReadsName}
+use Rattle.board_service.specs.Listed.{LooksUp, Numbered, KnownName, ReadsName}
 
 -- ---- looking up
 
-module _ {count : ℕ} {lens highs lows : List ℕ} {n h l k : ℕ} where
+module _ {count : ℕ} {lens highs lows : List ℕ} {n h l : ℕ} where
   -- the hint led to it
-  pub looks_hinted : k < count → Same lens highs lows n h l k → LooksUp count lens highs lows n h l k
-  looks_hinted b s =
+  pub looks_hinted : {k : ℕ} → k < count → Same lens highs lows n h l k → LooksUp count lens highs lows n h l (Some k)
+  looks_hinted {k} b s =
       record {
-        most = omega arith;
+        below = b;
         number = λ ns p d e w i j o.
             sym (event_number_lem ns k (omega (arith, p.counted)) d e (entry_told p k b w i j o s));
       }
-
-  pub looks_found : Finds count lens highs lows n h l k → LooksUp count lens highs lows n h l k
-  looks_found f = record { most = f.most; number = λ ns p d. f.number ns p }
 
 -- ---- a name with its byte 10
 
@@ -66,37 +62,31 @@ module _ (t : List ℕ) (at : ℕ) where
       (omega arith, omega arith)
 
   module _ {count : ℕ} {lens highs lows : List ℕ} where
-    pub reads_missing : name t at ≡ fail → ReadsName t at count lens highs lows Odd
-    unfolding NameFound
+    pub reads_missing : name t at ≡ fail → ReadsName t at count lens highs lows None
     reads_missing e = record { found = inl (form_missing e) }
 
-    module _ {n h l m : ℕ} (g : GotName (name t at) n h l m) where
-      pub reads_open : lit_bytes (bytes "\n") t m ≡ fail → ReadsName t at count lens highs lows Odd
-      unfolding NameFound
-      reads_open f = record { found = inl (form_open g.name m g.read f) }
+    module _ {f : NameAt} (g : GotName (name t at) f) where
+      pub reads_open : lit_bytes (bytes "\n") t f.next ≡ fail → ReadsName t at count lens highs lows None
+      reads_open e = record { found = inl (form_open g.name f.next g.read e) }
 
-      module _ {next : ℕ} (f : lit_bytes (bytes "\n") t m ≡ got tt next) {r : ℕ} (u : LooksUp count lens highs lows n h l r) where
-        numbered : Numbered t at count lens highs lows next r
-        numbered =
+      module _ {next : ℕ} (e : lit_bytes (bytes "\n") t f.next ≡ got tt next) where
+        numbered : {r : Option ℕ} → LooksUp count lens highs lows f.name.«len» f.name.high f.name.low r → Numbered t at count lens highs lows next (unwrap_or r count)
+        numbered u =
             record {
               number = λ ns p d. (
                 g.name,
-                form_ended g.name m next g.read f,
-                u.number ns p d g.name (name_sound t at g.name m g.read).0 g.long g.high_is g.low_is,
+                form_ended g.name f.next next g.read e,
+                u.number ns p d g.name (name_sound t at g.name f.next g.read).0 (λ i. (g.told i).«len») (λ i. (g.told i).high) (λ i. (g.told i).low),
               );
             }
 
-        pub reads_unknown : count ≤ r → ReadsName t at count lens highs lows Odd
-        unfolding NameFound
-        reads_unknown b =
-            let z : count ≡ r = omega (arith, u.most) in
-            record { found = inr (next, subst (Numbered t at count lens highs lows next) (sym z) numbered) }
+        pub reads_unknown : LooksUp count lens highs lows f.name.«len» f.name.high f.name.low None → ReadsName t at count lens highs lows None
+        reads_unknown u = record { found = inr (next, numbered u) }
 
-        pub reads_known : r < count → ReadsName t at count lens highs lows (Known r next)
-        unfolding NameFound
-        reads_known b =
-            let o = form_on g.name next (form_ended g.name m next g.read f) in
-            record { found = record { low = b; later = o.0; inside = o.1; numbered = numbered } }
+        pub reads_known : {k : ℕ} → LooksUp count lens highs lows f.name.«len» f.name.high f.name.low (Some k) → ReadsName t at count lens highs lows (Some (record { event = k; next = next }))
+        reads_known u =
+            let o = form_on g.name next (form_ended g.name f.next next g.read e) in
+            record { found = record { low = u.below; later = o.0; inside = o.1; numbered = numbered u } }
 
 -- ---- a name that is verified
 
@@ -130,8 +120,3 @@ module _ (t lens highs lows : List ℕ) (at count size h l k : ℕ) where
               );
         };
       }
-
-pub quick_known : {t : List ℕ} {at count : ℕ} {lens highs lows : List ℕ} {r : QuickName} → NameGuessed t at count lens highs lows r → {e next : ℕ} → r ≡ Verified e next
-    → ReadsName t at count lens highs lows (Known e next)
-unfolding NameGuessed NameFound
-quick_known {t} {at} {count} {lens} {highs} {lows} a q = record { found = subst (NameGuessed t at count lens highs lows) q a }

@@ -1,7 +1,8 @@
 -- The names of a list from a position on: whether one of them is odd, and the loop that looks for it.
+use Rattle.std.specs.Prelude.{Some, None}
 use Prim.Native.Nat.{ℕ, suc, ◌+◌, ◌<◌, ◌≤◌}
 use native.Mathlib.Omega.{arith}
-use mathlib.Core.Path.{◌≡◌, refl, ap, sym, ◌∙◌, subst}
+use mathlib.Core.Path.{◌≡◌, ap, sym, ◌∙◌}
 use mathlib.Core.Logic.{◌⊎◌, inl, inr}
 use mathlib.Core.Bool.{Bool, not, ◌&&◌}
 use mathlib.Core.List.{List, ◌∷◌}
@@ -18,10 +19,8 @@ use Rattle.model.specs.Board.{move_on}
 use Rattle.model.proofs.Laws.{T_true, T_false}
 use Rattle.model.proofs.BoardNames.{names_end, names_more, names_odd}
 use Rattle.sheet_reader.specs.Lent.{Lent, lent_rows}
-use Rattle.board_service.specs.declared.name_list.NextName.{NextName}
-use Rattle.board_service.specs.declared.name_list.NextName.TheVariants.{Odd, Known}
-use Rattle.board_service.specs.declared.running.OddName.TheVariants as O
-use Rattle.board_service.specs.Listed.{Numbered, KnownName, NameFound, ReadsName}
+use Rattle.board_service.specs.declared.name_list.EventAt.{EventAt}
+use Rattle.board_service.specs.Listed.{Numbered, ReadsName}
 use Rattle.board_service.specs.Boards.{names_from, odd_from, Loaded, odd_is, FindsOdd}
 use Rattle.board_service.proofs.Knowing.{on_name, off_name}
 
@@ -47,24 +46,19 @@ module _ (b : Board) (k : ℕ) where
 -- ---- the name at a position
 
 module _ {t : List ℕ} {at count : ℕ} {lens highs lows : List ℕ} where
-  pub known_name : {e next : ℕ} → ReadsName t at count lens highs lows (Known e next) → KnownName t at count lens highs lows e next
-  unfolding NameFound
-  known_name r = r.found
-
   module _ {b : Board} {pre post : List ℕ} (o : Loaded b count (lent_rows lens highs lows pre post)) where
     -- the name, and the number that the rows have for it
     pub own_name : {next e : ℕ} → Numbered t at count lens highs lows next e → (w : Name) × (name_form t at ≡ got w next) × (e ≡ event_number o.told.names w)
     own_name n = n.number o.told.names o.told.held.packed o.told.held.once
 
     module _ (k : ℕ) where
-      pub seek_more : {e next : ℕ} → ReadsName t at count lens highs lows (Known e next) → odd_from b k (names_from t at) ≡ odd_from b (k + 1) (names_from t next)
-      seek_more {next = next} r =
-          let n = known_name r in
+      pub seek_more : {x : EventAt} → ReadsName t at count lens highs lows (Some x) → odd_from b k (names_from t at) ≡ odd_from b (k + 1) (names_from t x.next)
+      seek_more {x} r =
+          let n = r.found in
           let (w, h, q) = own_name n.numbered in
-          ap (odd_from b k) (names_more t at w next h) ∙ odd_more b k w (names_from t next) (on_name o.told w (omega (arith, n.low, q)))
+          ap (odd_from b k) (names_more t at w x.next h) ∙ odd_more b k w (names_from t x.next) (on_name o.told w (omega (arith, n.low, q)))
 
-      pub seek_odd : at < length t → ReadsName t at count lens highs lows Odd → odd_from b k (names_from t at) ≡ some k
-      unfolding NameFound
+      pub seek_odd : at < length t → ReadsName t at count lens highs lows None → odd_from b k (names_from t at) ≡ some k
       seek_odd h r = go r.found
         where
           go : (name_form t at ≡ fail) ⊎ ((next : ℕ) × Numbered t at count lens highs lows next count) → odd_from b k (names_from t at) ≡ some k
@@ -86,27 +80,19 @@ pub record Seeking (t : List ℕ) (at before count : ℕ) (lens highs lows : Lis
   pub same : (b : Board) (pre post : List ℕ) → Loaded b count (lent_rows lens highs lows pre post) → odd_from b k (names_from t i) ≡ odd_from b before (names_from t at)
 
 module _ {t : List ℕ} {at before count : ℕ} {lens highs lows : List ℕ} where
-  pub seeking_start : before ≤ at → at ≤ length t → Seeking t at before count lens highs lows before at
-  seeking_start h l = record { inside = l; ordered = h; same = λ b pre post o. refl }
-
   module _ {k i : ℕ} (inv : Seeking t at before count lens highs lows k i) where
-    pub seeking_odd : i < length t → {r : NextName} → ReadsName t i count lens highs lows r → r ≡ Odd → FindsOdd t at before count lens highs lows (O.At k)
+    pub seeking_odd : i < length t → ReadsName t i count lens highs lows None → FindsOdd t at before count lens highs lows (Some k)
     unfolding odd_is
-    seeking_odd h {r} a q =
-        record { odd = λ b pre post o. sym (sym (inv.same b pre post o) ∙ seek_odd o k h (subst (ReadsName t i count lens highs lows) q a)) }
+    seeking_odd h a = record { odd = λ b pre post o. sym (sym (inv.same b pre post o) ∙ seek_odd o k h a) }
 
-    module _ {r : NextName} (a : ReadsName t i count lens highs lows r) {e next : ℕ} (q : r ≡ Known e next) where
-      pub seeking_on : (i < next) × (next ≤ length t)
-      seeking_on = let n = known_name (subst (ReadsName t i count lens highs lows) q a) in (n.later, n.inside)
+    pub seeking_more : {x : EventAt} → ReadsName t i count lens highs lows (Some x) → Seeking t at before count lens highs lows (k + 1) x.next
+    seeking_more {x} a =
+        record {
+          inside = a.found.inside;
+          ordered = omega (arith, a.found.later, inv.ordered);
+          same = λ b pre post o. sym (seek_more o k a) ∙ inv.same b pre post o;
+        }
 
-      pub seeking_more : Seeking t at before count lens highs lows (k + 1) next
-      seeking_more =
-          record {
-            inside = seeking_on.1;
-            ordered = omega (arith, seeking_on.0, inv.ordered);
-            same = λ b pre post o. sym (seek_more o k (subst (ReadsName t i count lens highs lows) q a)) ∙ inv.same b pre post o;
-          }
-
-    pub seeking_end : length t ≤ i → FindsOdd t at before count lens highs lows O.None
+    pub seeking_end : length t ≤ i → FindsOdd t at before count lens highs lows None
     unfolding odd_is
     seeking_end h = record { odd = λ b pre post o. sym (sym (inv.same b pre post o) ∙ seek_end o t i k h) }

@@ -1,4 +1,5 @@
 -- A list of names on the machines of a sheet.
+use Rattle.std.specs.Prelude as Std
 use Rattle.std.specs.Prelude.{ℕ, ◌+◌, ◌≡◌, not, cond, ◌&&◌, List, [], length, drop}
 use Rattle.std.proofs.Math.Option.{Option, none, some}
 use Rattle.model.specs.Lists.{every, index, is_empty}
@@ -14,8 +15,6 @@ use Rattle.sheet_reader.specs.Lent.{Lent, lent_rows}
 use Rattle.sheet_reader.specs.Lines.{Told}
 use Rattle.product.specs.declared.RunAnswer as D
 use Rattle.product.specs.Answers.{run_answer}
-use Rattle.board_service.specs.declared.running.OddName.{OddName}
-use Rattle.board_service.specs.declared.running.OddName.TheVariants as O
 
 -- the names from a position on, and what stands after the last byte 10
 abbrev pub names_from : List ℕ → ℕ → List Name × List ℕ
@@ -36,12 +35,12 @@ pub record Loaded (b : Board) (count : ℕ) (u : Lent) : Type 0 where
   pub says : SaysSheet sheet b
   pub told : Told b count u
 
-unfoldable pub odd_is : OddName → Option ℕ
-odd_is O.None = none
-odd_is (O.At k) = some k
+unfoldable pub odd_is : Std.Option ℕ → Option ℕ
+odd_is Std.None = none
+odd_is (Std.Some k) = some k
 
 -- for any rows of moves beside those of the names
-pub record FindsOdd (t : List ℕ) (at before count : ℕ) (lens highs lows : List ℕ) (r : OddName) : Type 0 where
+pub record FindsOdd (t : List ℕ) (at before count : ℕ) (lens highs lows : List ℕ) (r : Std.Option ℕ) : Type 0 where
   pub odd : (b : Board) (pre post : List ℕ) → Loaded b count (lent_rows lens highs lows pre post) → odd_is r ≡ odd_from b before (names_from t at)
 
 -- so many names ran, this machine blocked the next, and the others begin at a position

@@ -7,13 +7,10 @@ ghost use Rattle.answers.specs.Answers.{answered};
 ghost use Rattle.product.specs.Answers.{run_answer};
 ghost use Rattle.board_service.specs.Boards.{RunsBoard};
 
-use answers::Answer;
-use model::{MAX_EVENTS, MAX_MACHINES, Refusal};
-use names::HINTS;
+use model::Refusal;
 use product::{RunAnswer, refused};
-use regions::{MOVES, NOT_ON};
 use running::run_names;
-use sheet_reader::{SheetRead, read_sheet};
+use sheet_reader::{SheetRows, read_sheet};
 use writers::write_bytes;
 
 mod name_list; // a name of the list, looked up
@@ -21,39 +18,20 @@ mod running; // the names one after another
 
 // The machines of a sheet into the first bytes of the lent buffer, or the refusal and no byte changed. A good sheet is what its machines write, so its bytes are
 // copied.
-pub fn sheet(sheet: &[u8], out: &mut [u8]) -> Answer
+pub fn sheet(sheet: &[u8], out: &mut [u8]) -> Result<usize, Refusal>
     ensures result_value { answered result ≡ (Board.rewrite sheet.now out.old).answer }
     ensures out_after { out.new ≡ (Board.rewrite sheet.now out.old).left }
 {
-    let mut len = [0usize; MAX_EVENTS];
-    let mut high = [0u64; MAX_EVENTS];
-    let mut low = [0u64; MAX_EVENTS];
-    let mut hints = [0u8; HINTS];
-    let mut pre = [NOT_ON; MOVES];
-    let mut post = [0u8; MOVES];
-    let mut starts = [0u8; MAX_MACHINES];
-    let read = read_sheet(
-        sheet,
-        &mut len,
-        &mut high,
-        &mut low,
-        &mut hints,
-        &mut pre,
-        &mut post,
-        &mut starts,
-    );
-    if let SheetRead::Bad { line } = read {
-        return Answer::Refused(Refusal::BadSheet { line }); // 15 bad sheet
-    }
+    let mut rows = SheetRows::fresh();
+    read_sheet(sheet, &mut rows)?; // 15 bad sheet
     let size = sheet.len();
     if out.len() < size {
-        return Answer::Refused(Refusal::BufferTooShort { needed: size }); // 13 short sheet
+        return Err(Refusal::BufferTooShort { needed: size }); // 13 short sheet
     }
-    write_bytes(sheet, out, 0);
-    Answer::Accepted { size }
+    Ok(write_bytes(sheet, out, 0))
 }
 
-// What a list of names comes to on the machines of a sheet, and how many machines there are; 0 where the sheet is bad.
+// What a list of names comes to on the machines of a sheet, and how many machines there are. That is 0 where the sheet is bad, and no Option: so `RunsBoard` has it.
 #[derive(Drop)]
 pub struct BoardRun {
     pub machines: usize,
@@ -63,36 +41,16 @@ pub struct BoardRun {
 pub fn run_board(sheet: &[u8], names: &[u8]) -> BoardRun
     ensures { RunsBoard sheet.now names.now result.machines result.answer }
 {
-    let mut len = [0usize; MAX_EVENTS];
-    let mut high = [0u64; MAX_EVENTS];
-    let mut low = [0u64; MAX_EVENTS];
-    let mut hints = [0u8; HINTS];
-    let mut pre = [NOT_ON; MOVES];
-    let mut post = [0u8; MOVES];
-    let mut starts = [0u8; MAX_MACHINES];
-    match read_sheet(
-        sheet,
-        &mut len,
-        &mut high,
-        &mut low,
-        &mut hints,
-        &mut pre,
-        &mut post,
-        &mut starts,
-    ) {
-        SheetRead::Bad { line } => BoardRun {
-            machines: 0,
-            answer: refused(Refusal::BadSheet { line }), // 15 bad sheet
-        },
-        SheetRead::Read {
+    let mut rows = SheetRows::fresh();
+    match read_sheet(sheet, &mut rows) {
+        Ok(machines) => BoardRun {
             machines,
-            names: count,
-        } => {
-            let answer = run_names(
-                names, &len, &high, &low, count, &hints, &pre, &post, machines, starts,
-            );
-            BoardRun { machines, answer }
-        }
+            answer: run_names(names, &rows, machines),
+        },
+        Err(why) => BoardRun {
+            machines: 0,
+            answer: refused(why), // 15 bad sheet
+        },
     }
 }
 

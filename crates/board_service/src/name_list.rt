@@ -2,126 +2,68 @@
 ghost use Rattle.std.specs.Prelude.{◌+◌, ◌≤◌, length};
 ghost use Rattle.board_service.specs.Listed.{LooksUp, NameGuessed, ReadsName};
 
-use lexer::{NameWord, Word, read_literal, read_name};
-use model::MAX_EVENTS;
-use names::{HINTS, find_name, hint, is_name_at};
+use lexer::{PackedName, read_literal, read_name};
+use names::Names;
 use quick_words::{guess_size, is_byte, pack_name};
 
-// The number of the name with this length and these numbers; their count if there is none.
-fn look_up<'a>(
-    len: &'a [usize; MAX_EVENTS],
-    high: &'a [u64; MAX_EVENTS],
-    low: &'a [u64; MAX_EVENTS],
-    count: usize,
-    hints: &'a [u8; HINTS],
-    n: usize,
-    h: u64,
-    l: u64,
-) -> usize
-    requires { count ≤ 64 }
-    ensures { LooksUp count «len».now «high».now «low».now n h l result }
+// The event that a name of the list is, and the position after the name's byte 10.
+#[derive(Clone, Copy)]
+pub struct EventAt {
+    pub event: usize,
+    pub next: usize,
+}
+
+// The number of a name on the sheet.
+fn look_up(sheet: &Names, name: PackedName) -> Option<usize>
+    requires { sheet.now.count ≤ 64 }
+    ensures { LooksUp sheet.now.count sheet.now.«len» sheet.now.«high» sheet.now.«low» name.«len» name.«high» name.«low» result }
 {
-    let k = hint(hints, h, l);
-    if k < count {
-        if is_name_at(len, high, low, k, n, h, l) {
-            return k;
-        }
+    let k = sheet.hint(name);
+    if k < sheet.count && sheet.is_at(k, name) {
+        return Some(k);
     }
-    find_name(len, high, low, count, n, h, l)
+    sheet.find(name)
 }
 
-// The name at a position, verified; or nothing is known of it.
-#[derive(Drop)]
-enum QuickName {
-    Unknown,
-    Verified { event: usize, next: usize },
-}
-
-// The name at a position with 17 bytes from there on, if the hint leads to it.
-fn verified_name<'a>(
-    names: &[u8],
-    at: usize,
-    len: &'a [usize; MAX_EVENTS],
-    high: &'a [u64; MAX_EVENTS],
-    low: &'a [u64; MAX_EVENTS],
-    count: usize,
-    hints: &'a [u8; HINTS],
-) -> QuickName
+// The name at a position with 17 bytes from there on, if the hint leads to it; else nothing is known of it. The tests are one branch.
+fn verified_name(names: &[u8], at: usize, sheet: &Names) -> Option<EventAt>
     requires { at + 17 ≤ length names.now }
-    ensures { NameGuessed names.now at count «len».now «high».now «low».now result }
+    ensures { NameGuessed names.now at sheet.now.count sheet.now.«len» sheet.now.«high» sheet.now.«low» result }
 {
-    let size = guess_size(names, at);
-    let name = pack_name(names, at, size);
-    let end = at + size;
-    let event = hint(hints, name.high, name.low);
-    let named = is_name_at(len, high, low, event, size, name.high, name.low);
-    if is_byte(names, end, b'\n') & named & (event < count) {
-        return QuickName::Verified {
+    let name = pack_name(names, at, guess_size(names, at));
+    let end = at + name.len;
+    let event = sheet.hint(name);
+    let named = sheet.is_at(event, name);
+    if is_byte(names, end, b'\n') & named & (event < sheet.count) {
+        return Some(EventAt {
             event,
             next: end + 1,
-        };
+        });
     }
-    QuickName::Unknown
+    None
 }
 
-// The name at a position: its event and the position after its byte 10; or it is not ended, or on no move.
-#[derive(Drop)]
-pub enum NextName {
-    Odd,
-    Known { event: usize, next: usize },
-}
-
-// The same, word by word.
-fn read_words<'a>(
-    names: &[u8],
-    at: usize,
-    len: &'a [usize; MAX_EVENTS],
-    high: &'a [u64; MAX_EVENTS],
-    low: &'a [u64; MAX_EVENTS],
-    count: usize,
-    hints: &'a [u8; HINTS],
-) -> NextName
-    requires { count ≤ 64 }
-    ensures { ReadsName names.now at count «len».now «high».now «low».now result }
+// The name at a position, word by word. There is none if it is not ended, or on no move.
+fn read_words(names: &[u8], at: usize, sheet: &Names) -> Option<EventAt>
+    requires { sheet.now.count ≤ 64 }
+    ensures { ReadsName names.now at sheet.now.count sheet.now.«len» sheet.now.«high» sheet.now.«low» result }
 {
-    let NameWord::Found {
-        len: n,
-        high: h,
-        low: l,
-        next: end,
-    } = read_name(names, at)
-    else {
-        return NextName::Odd;
-    };
-    let Word::Found { value: _, next } = read_literal(names, end, b"\n") else {
-        return NextName::Odd;
-    };
-    let event = look_up(len, high, low, count, hints, n, h, l);
-    if count <= event {
-        return NextName::Odd;
-    }
-    NextName::Known { event, next }
+    let found = read_name(names, at)?;
+    let next = read_literal(names, found.next, b"\n")?;
+    let event = look_up(sheet, found.name)?;
+    Some(EventAt { event, next })
 }
 
 // The same, by words only where it is not verified at once.
-pub fn next_name<'a>(
-    names: &[u8],
-    at: usize,
-    len: &'a [usize; MAX_EVENTS],
-    high: &'a [u64; MAX_EVENTS],
-    low: &'a [u64; MAX_EVENTS],
-    count: usize,
-    hints: &'a [u8; HINTS],
-) -> NextName
-    requires { (count ≤ 64) × (at ≤ length names.now) }
-    ensures { ReadsName names.now at count «len».now «high».now «low».now result }
+pub fn next_name(names: &[u8], at: usize, sheet: &Names) -> Option<EventAt>
+    requires { (sheet.now.count ≤ 64) × (at ≤ length names.now) }
+    ensures { ReadsName names.now at sheet.now.count sheet.now.«len» sheet.now.«high» sheet.now.«low» result }
 {
     if names.len() - at < 17 {
-        return read_words(names, at, len, high, low, count, hints);
+        return read_words(names, at, sheet);
     }
-    let QuickName::Verified { event, next } = verified_name(names, at, len, high, low, count, hints)
-    else {
-        return read_words(names, at, len, high, low, count, hints);
-    };
-    NextName::Known { event, next }
+    if let Some(known) = verified_name(names, at, sheet) {
+        return Some(known);
+    }
+    read_words(names, at, sheet)
 }

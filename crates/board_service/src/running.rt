@@ -1,67 +1,47 @@
 // A list of names on the machines of a sheet: each is looked up and run at once. After a block the others are only looked up, since one that is odd turns the
 // answer into 14.
-ghost use Rattle.std.specs.Prelude.{◌+◌, ◌<◌, ◌≤◌, length};
-ghost use Rattle.regions.specs.Moves.{MoveRows};
-ghost use Rattle.sheet_reader.specs.Lent.{lent_rows};
+ghost use Rattle.std.specs.Prelude.{◌<◌, ◌≤◌, length};
+ghost use Rattle.sheet_reader.specs.Lent.{lent};
 ghost use Rattle.product.specs.Answers.{run_answer};
 ghost use Rattle.board_service.specs.Boards.{FindsOdd, EndsBlocked, RunsNames};
 
-use super::name_list::{NextName, next_name};
-use model::{MAX_EVENTS, MAX_MACHINES, Refusal};
-use names::HINTS;
+use super::name_list::next_name;
+use model::{MAX_MACHINES, Refusal};
+use names::Names;
 use product::{Outcome, RunAnswer, blocking_machine, move_lanes, place_bounds, refused};
+use sheet_reader::SheetRows;
 
-// The first name from a position on that is not ended or on no move, by how many names stand before it.
-#[derive(Drop)]
-enum OddName {
-    None,
-    At { position: usize },
-}
-
-// The same, where `before` names stand before the first of these.
-fn odd_name<'a>(
-    names: &[u8],
-    at: usize,
-    before: usize,
-    len: &'a [usize; MAX_EVENTS],
-    high: &'a [u64; MAX_EVENTS],
-    low: &'a [u64; MAX_EVENTS],
-    count: usize,
-    hints: &'a [u8; HINTS],
-) -> OddName
-    requires { (count ≤ 64) × (before ≤ at) × (at ≤ length names.now) }
-    ensures { FindsOdd names.now at before count «len».now «high».now «low».now result }
+// The first name from a position on that is not ended or on no move, by how many names stand before it; `before` stand before the first of these.
+fn odd_name(names: &[u8], at: usize, before: usize, sheet: &Names) -> Option<usize>
+    requires { (sheet.now.count ≤ 64) × (before ≤ at) × (at ≤ length names.now) }
+    ensures { FindsOdd names.now at before sheet.now.count sheet.now.«len» sheet.now.«high» sheet.now.«low» result }
 {
-    let mut k = before;
+    let mut position = before;
     let mut i = at;
+    // a name moves the position by its length, so this is no for
     while i < names.len() {
-        let NextName::Known { event: _, next } = next_name(names, i, len, high, low, count, hints)
-        else {
-            return OddName::At { position: k };
+        let Some(known) = next_name(names, i, sheet) else {
+            return Some(position);
         };
-        k += 1;
-        i = next;
+        position += 1;
+        i = known.next;
     }
-    OddName::None
+    None
 }
 
 // The answer where a machine has blocked a name, and `at` is the position after this name.
-fn end_blocked<'a>(
+fn end_blocked(
     names: &[u8],
     at: usize,
-    len: &'a [usize; MAX_EVENTS],
-    high: &'a [u64; MAX_EVENTS],
-    low: &'a [u64; MAX_EVENTS],
-    count: usize,
-    hints: &'a [u8; HINTS],
+    sheet: &Names,
     ran: usize,
     machine: usize,
     places: [u8; MAX_MACHINES],
 ) -> RunAnswer
-    requires { (count ≤ 64) × (ran < at) × (at ≤ length names.now) }
-    ensures { EndsBlocked names.now at count «len».now «high».now «low».now ran machine places (run_answer result) }
+    requires { (sheet.now.count ≤ 64) × (ran < at) × (at ≤ length names.now) }
+    ensures { EndsBlocked names.now at sheet.now.count sheet.now.«len» sheet.now.«high» sheet.now.«low» ran machine places (run_answer result) }
 {
-    if let OddName::At { position } = odd_name(names, at, ran + 1, len, high, low, count, hints) {
+    if let Some(position) = odd_name(names, at, ran + 1, sheet) {
         return refused(Refusal::UnknownEvent { position }); // 14 odd call
     }
     RunAnswer {
@@ -70,44 +50,29 @@ fn end_blocked<'a>(
     }
 }
 
-// The names one after another, from these places.
-pub fn run_names<'a>(
-    names: &[u8],
-    len: &'a [usize; MAX_EVENTS],
-    high: &'a [u64; MAX_EVENTS],
-    low: &'a [u64; MAX_EVENTS],
-    count: usize,
-    hints: &'a [u8; HINTS],
-    pre: &'a [u8],
-    post: &'a [u8],
-    machines: usize,
-    start: [u8; MAX_MACHINES],
-) -> RunAnswer
-    requires { (count ≤ 64) × (machines ≤ 16) × MoveRows pre.now post.now }
-    ensures { RunsNames names.now machines count (lent_rows «len».now «high».now «low».now pre.now post.now) start (run_answer result) }
+// The names one after another, from the start places.
+pub fn run_names(names: &[u8], sheet: &SheetRows, machines: usize) -> RunAnswer
+    requires { (sheet.now.names.count ≤ 64) × (machines ≤ 16) }
+    ensures { RunsNames names.now machines sheet.now.names.count (lent sheet.now.names sheet.now.moves) sheet.now.starts (run_answer result) }
 {
     let bounds = place_bounds(machines);
     let sixteen = [MAX_MACHINES; 1];
-    let mut places = start;
+    let mut places = sheet.starts;
     let mut ran = 0;
     let mut i = 0;
+    // nor is this
     while i < names.len() {
-        let NextName::Known { event, next } = next_name(names, i, len, high, low, count, hints)
-        else {
+        let Some(known) = next_name(names, i, &sheet.names) else {
             return refused(Refusal::UnknownEvent { position: ran }); // 14 odd call
         };
-        let moved = move_lanes(pre, post, bounds, places, event, &sixteen);
-        let ready = moved.ready;
-        let after = moved.places;
-        if !ready {
-            let machine = blocking_machine(pre, machines, places, event);
-            return end_blocked(
-                names, next, len, high, low, count, hints, ran, machine, places,
-            );
-        }
+        let Some(after) = move_lanes(&sheet.moves, bounds, places, known.event, &sixteen) else {
+            // one of the machines is not ready
+            let machine = blocking_machine(&sheet.moves, machines, places, known.event).unwrap();
+            return end_blocked(names, known.next, &sheet.names, ran, machine, places);
+        };
         places = after;
         ran += 1;
-        i = next;
+        i = known.next;
     }
     RunAnswer {
         outcome: Outcome::Whole,

@@ -2,6 +2,7 @@
 use Prim.Native.Nat.{ℕ}
 use mathlib.Core.Path.{◌≡◌, refl}
 use mathlib.Core.List.{List}
+use Rattle.std.specs.Prelude.{Err}
 use Rattle.model.specs.declared.Refusal as D
 use Rattle.model.specs.Cases.{tabled}
 use Rattle.model.specs.Refusal.{Checked, refused, passed}
@@ -13,12 +14,11 @@ use Rattle.sheet.specs.Written.{row_sheet}
 use Rattle.sheet.proofs.Told.{told_sheet}
 use Rattle.stages.specs.Stages.{Judged}
 use Rattle.stages.proofs.Stages.{past_12, machines_pass}
-use Rattle.answers.specs.declared.Answer.TheVariants as A
 use Rattle.answers.specs.Answers.{answered}
 
 -- refused by 1 to 12
 pub check_refused : (s out : List ℕ) (why : D.Refusal) → as_far_as12 s ≡ refused (tabled why)
-    → (answered (A.Refused why) ≡ (check s out).answer) × (out ≡ (check s out).left)
+    → (answered (Err why) ≡ (check s out).answer) × (out ≡ (check s out).left)
 unfolding answered check lend
 check_refused s out why e = rw e (refl, refl)
 

@@ -11,6 +11,9 @@ use lib.Dec.{ltb, eqb}
 use lib.ListN.{length, take}
 use lib.Seq.{take-suc, take-length}
 use Rattle.model.specs.Lists.{At, exists, every, is_some, lowest}
+use Rattle.std.specs.Prelude.{Result, Some, None}
+use Rattle.std.specs.Prelude as Std
+use Rattle.model.specs.declared.Refusal as D
 use Rattle.model.specs.Refusal.{Refusal, refuse}
 use Rattle.model.specs.TransitionSystem.{TransitionSystem}
 use Rattle.model.specs.Product.{in_alphabet, effective}
@@ -18,11 +21,11 @@ use Rattle.model.specs.Machine.{Machine, Decomposition, place_of, in_pre, ready,
 use Rattle.model.proofs.Laws.{order}
 use Rattle.model.proofs.ListLaws.{every_append}
 use Rattle.model.proofs.Positions.{at_below, below_at, at_value}
+use Rattle.state_set.specs.Member.{state_found}
 use Rattle.rows.specs.declared.Counts.{Counts}
-use Rattle.rows.specs.declared.Verdict.{Verdict}
 use Rattle.rows.specs.Tables.{verdict_refusal}
-use Rattle.rows.specs.Told.{entry, below}
-use Rattle.rows.proofs.Searches.{below_in, below_out, lowest_same}
+use Rattle.rows.specs.Told.{entry}
+use Rattle.rows.proofs.Searches.{lowest_same}
 use Rattle.rows.proofs.Fronts.{exists_snoc}
 use Rattle.regions.specs.Moves.{move_at, MovesTold}
 use Rattle.closure.specs.Covers.{PlaceSets, on_machine, on_some, meets, common_to, open_in, open_refusal, CoverTold, SetsTold, CoverJudged}
@@ -130,25 +133,25 @@ pub no_pass : {A : Type 0} (r : Refusal) → some r ≡ none → A
 no_pass r h = absurd (some-ne-none r h)
 
 -- ---- 11 and 12 by the rows
-module _ (c : Counts) {pre place excitations : List ℕ} (event : ℕ)
-    (answer : below c.events event ≡ lowest (λ (e : ℕ). not (on_some pre e c.machines)) c.events) where
+module _ (c : Counts) {pre place excitations : List ℕ} (event : Std.Option ℕ)
+    (answer : state_found event ≡ lowest (λ (e : ℕ). not (on_some pre e c.machines)) c.events) where
   module _ {ts : TransitionSystem} {ms : Decomposition} {post : List ℕ} (told : CoverTold ts ms pre post place excitations) (labels : ts.events ≡ c.events)
       (count : length ms ≡ c.machines) where
-    eleven : below c.events event ≡ ineffective_event ts ms
+    eleven : state_found event ≡ ineffective_event ts ms
     eleven = answer ∙ rw (sym labels, sym count) (ineffective_same told.moves)
 
-  pub cover_refused : {r : Verdict} → event < c.events → verdict_refusal r ≡ some (refuse 11 event 0) → CoverJudged c pre place excitations r
-  unfolding cover_refusal or_else
-  cover_refused l v =
-      record { judges = λ ts ms post told states labels count. v ∙ rw (sym (eleven told labels count), below_in c.events event l) }
+  pub cover_refused : {r : Result (Unit {0}) D.Refusal} (e : ℕ) → event ≡ Some e → verdict_refusal r ≡ some (refuse 11 e 0) → CoverJudged c pre place excitations r
+  unfolding cover_refusal or_else state_found
+  cover_refused e q v =
+      record { judges = λ ts ms post told states labels count. v ∙ rw (sym (eleven told labels count), q) }
 
-  pub cover_passed : {r : Verdict} {words : ℕ} {sets : List ℕ} → c.events ≤ event → PlaceSets place c.states words c.machines sets
+  pub cover_passed : {r : Result (Unit {0}) D.Refusal} {words : ℕ} {sets : List ℕ} → event ≡ None → PlaceSets place c.states words c.machines sets
       → verdict_refusal r ≡ open_refusal (open_in sets pre excitations c.machines) c.events → CoverJudged c pre place excitations r
-  unfolding cover_refusal or_else
-  cover_passed l filled v =
+  unfolding cover_refusal or_else state_found
+  cover_passed q filled v =
       record {
         judges = λ ts ms post told states labels count.
-            let n : ineffective_event ts ms ≡ none = sym (eleven told labels count) ∙ below_out c.events event l in
+            let n : ineffective_event ts ms ≡ none = sym (eleven told labels count) ∙ ap state_found q in
             let by-sets = sets_told told (rw (sym states) at filled) (sym count) in
             v ∙ rw (n, sym labels, sym count) (all_closed by-sets (effective_each ts ms n));
       }

@@ -10,8 +10,8 @@ use Rattle.model.specs.Lists.{lowest}
 use Rattle.model.specs.Refusal.{refuse}
 use Rattle.model.proofs.Laws.{below_suc, order, Lowest, found, absent, lowest_view, none_lowest, or_else_none, map_none}
 use Rattle.state_set.specs.Member.{state_found}
-use Rattle.state_set.specs.declared.Found.{Found}
-use Rattle.state_set.specs.declared.Found.TheVariants.{Nothing, State}
+use Rattle.std.specs.Prelude.{Some, None}
+use Rattle.std.specs.Prelude as Std
 use Rattle.rows.proofs.Searches.{Upto, upto_more, below_in, searched, lowest_same}
 use Rattle.closure.specs.Covers.{open_refusal}
 
@@ -54,12 +54,12 @@ module _ (f : ℕ → Option ℕ) where
       go (inr b) ih = rw (← b, none_open k h, q)
 
   -- what the search in one event's set gave
-  pub open_more : {n k : ℕ} {r : Found} → Upto (λ j. f j ≡ none) n k → k < n → state_found r ≡ f k → r ≡ Nothing → Upto (λ j. f j ≡ none) n (k + 1)
+  pub open_more : {n k : ℕ} {r : Std.Option ℕ} → Upto (λ j. f j ≡ none) n k → k < n → state_found r ≡ f k → r ≡ None → Upto (λ j. f j ≡ none) n (k + 1)
   unfolding state_found
   open_more m l v u = upto_more m l (sym v ∙ ap state_found u)
 
   pub open_here :
-      {n k s w : ℕ} {r : Found} → Upto (λ j. f j ≡ none) n k → k < n → state_found r ≡ f k → r ≡ State s → w ≡ s
+      {n k s w : ℕ} {r : Std.Option ℕ} → Upto (λ j. f j ≡ none) n k → k < n → state_found r ≡ f k → r ≡ Some s → w ≡ s
       → some (refuse 12 k w) ≡ open_refusal f n
   unfolding state_found
   open_here {n} {k} {s} {w} m l v u q = sym (open_is k n w l m.each (rw (sym v, u, q)))

@@ -1,13 +1,13 @@
 -- The places of all machines as sets, and what the rows say of an event on all machines.
-use Rattle.std.specs.Prelude.{ℕ, zero, suc, ◌+◌, ◌*◌, ◌<◌, ◌≤◌, ◌≡◌, Bool, false, not, ◌&&◌, ◌||◌, List, eqb, ltb, length}
+use Rattle.std.specs.Prelude.{ℕ, zero, suc, ◌+◌, ◌*◌, ◌<◌, ◌≤◌, ◌≡◌, Bool, false, not, ◌&&◌, ◌||◌, List, eqb, ltb, length, Result}
 use Rattle.std.proofs.Math.Option.{Option, none, map, or_else}
 use Rattle.model.specs.Lists.{At, lowest}
+use Rattle.model.specs.declared.Refusal as D
 use Rattle.model.specs.Refusal.{Refusal, refuse}
 use Rattle.model.specs.TransitionSystem.{TransitionSystem}
 use Rattle.model.specs.Machine.{Machine, Decomposition, place_of, cover_refusal}
 use Rattle.state_set.specs.Rows.{member_at}
 use Rattle.rows.specs.declared.Counts.{Counts}
-use Rattle.rows.specs.declared.Verdict.{Verdict}
 use Rattle.rows.specs.Tables.{verdict_refusal}
 use Rattle.rows.specs.Told.{entry}
 use Rattle.transition_system.specs.Sets.{Excitations}
@@ -78,6 +78,6 @@ abbrev pub SetsTold : TransitionSystem → Decomposition → List ℕ → List �
 SetsTold ts ms pre post sets excited = MachinesHeld ts ms pre post excited (InSets ts ms sets)
 
 -- the verdict is that of 11 and 12 for any machines of which the rows tell
-pub record CoverJudged (c : Counts) (pre place excited : List ℕ) (r : Verdict) : Type 0 where
+pub record CoverJudged (c : Counts) (pre place excited : List ℕ) (r : Result (Unit {0}) D.Refusal) : Type 0 where
   pub judges : (ts : TransitionSystem) (ms : Decomposition) (post : List ℕ) → CoverTold ts ms pre post place excited → ts.states ≡ c.states → ts.events ≡ c.events
       → length ms ≡ c.machines → verdict_refusal r ≡ cover_refusal ts ms

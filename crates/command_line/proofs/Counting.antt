@@ -1,68 +1,26 @@
--- Numerals: the tests that a word must pass, and the number that its digits write, as far as a bound.
+-- Numerals: what the test of the digits says, and the number that they write, as far as a bound.
 use Prim.Native.Nat.{ℕ, suc, ◌+◌, ◌-◌, ◌*◌, ◌<◌, ◌≤◌, min}
 use native.Mathlib.Numerals.{add-one}
 use native.Mathlib.Omega.{arith}
 use mathlib.Core.Path.{◌≡◌, refl, ap, sym, ◌∙◌}
 use mathlib.Core.Logic.{◌⊎◌, inl, inr}
-use mathlib.Core.Bool.{Bool, true, false, not, ◌&&◌, ◌||◌, and-false, or-true}
+use mathlib.Core.Bool.{Bool, ◌&&◌}
 use mathlib.Core.List.{List, [], ◌∷◌}
-use borrow.Author.Tests.{le-leb, eq-eqb, ne_eqb}
-use lib.Dec.{eqb}
 use lib.ListN.{length, get_or, drop, drop_of_length-le}
 use lib.Seq.{drop-cons}
+use Rattle.std.specs.List.{list_all}
+use Rattle.std.specs.Char.{is_ascii_digit}
 use Rattle.model.specs.Lists.{every}
 use Rattle.model.specs.Bytes.{is_digit, decimal_from, decimal}
 use Rattle.model.proofs.Laws.{order}
-use Rattle.command_line.specs.Words.{is_numeral}
 
 -- ---- the digits
 
--- the bytes before i are digits: those that follow decide
-pub record Digits (w : List ℕ) (i : ℕ) : Type 0 where
-  pub left : every is_digit (drop i w) ≡ every is_digit w
-
-pub digits_start : {w : List ℕ} → Digits w 0
-digits_start = record { left = refl }
-
-module _ {w : List ℕ} {i : ℕ} (d : Digits w i) where
-  module _ (h : i < length w) {t : Bool} (e : t ≡ is_digit (get_or w i 0)) where
-    rest : every is_digit w ≡ (t && every is_digit (drop (i + 1) w))
-    unfolding every
-    rest = sym d.left ∙ rw (drop-cons w i 0 h, e, add-one i)
-
-    pub digits_more : t ≡ true → Digits w (i + 1)
-    digits_more y = record { left = sym (rw y at rest) }
-
-    pub digits_stop : t ≡ false → false ≡ is_numeral w
-    unfolding is_numeral
-    digits_stop n = rw (rest, n, and-false, and-false)
-
-  pub digits_end : length w ≤ i → every is_digit w ≡ true
-  unfolding every
-  digits_end h = sym d.left ∙ rw (drop_of_length-le w h)
-
--- ---- the numeral
-
-pub no_numeral_empty : (w : List ℕ) → length w ≡ 0 → false ≡ is_numeral w
-unfolding is_numeral
-no_numeral_empty w h = rw h
-
-pub no_numeral_zero : (w : List ℕ) → 1 < length w → get_or w 0 0 ≡ 48 → false ≡ is_numeral w
-unfolding is_numeral
-no_numeral_zero w h z = rw (z, ne_eqb (length w) 1 (λ q. omega arith), and-false)
-
-module _ (w : List ℕ) (any : length w ≡ 0 → ⊥) (plain : 1 < length w → get_or w 0 0 ≡ 48 → ⊥) where
-  -- one byte, or more that do not begin with 0
-  first_fine : (eqb (length w) 1 || not (eqb (get_or w 0 0) 48)) ≡ true
-  first_fine = go (order 1 (length w))
-    where
-      go : (1 < length w) ⊎ (length w ≤ 1) → (eqb (length w) 1 || not (eqb (get_or w 0 0) 48)) ≡ true
-      go (inl l) = rw (ne_eqb (get_or w 0 0) 48 (plain l), or-true)
-      go (inr l) = rw (eq-eqb (length w) 1 (omega (arith, any)))
-
-  pub is_numeral_lem : every is_digit w ≡ true → true ≡ is_numeral w
-  unfolding is_numeral
-  is_numeral_lem d = rw (first_fine, d, le-leb 1 (length w) (omega (arith, any)))
+-- what the chain over the bytes tests
+pub digits_all : (w : List ℕ) → list_all is_ascii_digit w ≡ every is_digit w
+unfolding every is_digit
+digits_all [] = refl
+digits_all (b ∷ w) = ap (λ (t : Bool). is_ascii_digit b && t) (digits_all w)
 
 -- ---- the number
 
@@ -87,11 +45,11 @@ pub counted_start : {w : List ℕ} {most : ℕ} → Counted w most 0 0
 counted_start = record { left = refl; within = omega arith }
 
 module _ {w : List ℕ} {most n i : ℕ} (c : Counted w most n i) where
-  pub counted_more : i < length w → {d r : ℕ} → d ≡ get_or w i 0 - 48 → r ≡ min (n * 10 + d) most → Counted w most r (i + 1)
-  counted_more h {d} {r} e q =
+  pub counted_more : i < length w → {r : ℕ} → r ≡ min (n * 10 + (get_or w i 0 - 48)) most → Counted w most r (i + 1)
+  counted_more h {r} q =
       record {
         left =
-            rw (q, e, add-one i)
+            rw (q, add-one i)
             (capped most (n * 10 + (get_or w i 0 - 48)) (drop (suc i) w)
             ∙ ap (λ (l : List ℕ). min (decimal_from n l) most) (sym (drop-cons w i 0 h))
             ∙ c.left);

@@ -1,21 +1,22 @@
 -- Words in one row of bytes: the bytes before the next 0 are the first word, and the others stand behind it.
-use Prim.Native.Nat.{ℕ, zero, suc, ◌+◌, ◌-◌, ◌<◌, ◌≤◌}
+use Prim.Native.Nat.{ℕ, zero, suc, ◌+◌, ◌-◌, ◌<◌, ◌≤◌, min}
 use native.Mathlib.Numerals.{add-one}
 use native.Mathlib.Omega.{arith}
 use mathlib.Core.Path.{◌≡◌, refl, ap, sym, ◌∙◌}
 use mathlib.Core.Logic.{◌⊎◌, inl, inr}
 use mathlib.Core.Bool.{Bool, true, false, cond}
 use mathlib.Core.List.{List, [], ◌∷◌}
-use mathlib.Core.Option.{none, some}
+use mathlib.Core.Option.{none, some, some-ne-none, some-injective}
 use borrow.Author.Tests.{eq-eqb, ne_eqb}
 use lib.Dec.{eqb}
 use lib.ListN.{length, get_or, take, drop, length-drop, drop_of_length-le}
-use lib.Seq.{get_or-drop, drop-drop, take_all}
+use lib.Seq.{drop-drop, take_all}
+use Rattle.std.specs.List.{AllWithin, HoldsAt}
 use Rattle.model.proofs.Laws.{order}
 use Rattle.command_line.specs.declared.Service.{Service}
 use Rattle.command_line.specs.declared.Service.TheVariants.{Check}
-use Rattle.command_line.specs.Words.{service_said}
-use Rattle.command_line.specs.WordRow.{begun_by, words_in, WordCut, BeginsAt}
+use Rattle.command_line.specs.Words.{service_said, number_said, event_said}
+use Rattle.command_line.specs.WordRow.{begun_by, words_in, only_word, WordCut, BeginsAt}
 use Rattle.command_line.specs.Program.{service_asked, further_words, size_said, one_event_said}
 
 -- ---- the first word
@@ -32,39 +33,39 @@ first_cut (b ∷ c ∷ s) (suc n) h f z l =
     (ne_eqb b 0 (f 0 (omega arith)))
     (ap (begun_by b) (first_cut (c ∷ s) n (omega arith) (λ i k. f (suc i) (omega arith)) (λ k. z (omega arith)) (omega arith)))
 
--- the bytes from `at` to `end` are not 0
-pub record Passed (s : List ℕ) (at end : ℕ) : Type 0 where
-  pub least : at ≤ end
-  pub most : end ≤ length s
-  pub each : (i : ℕ) → at ≤ i → i < end → get_or s i 0 ≡ 0 → ⊥
+-- the bytes from `at` on as the code has them, none of the first n is 0, and the next is 0 or there is none
+module _ (s : List ℕ) (at : ℕ) (h : at ≤ length s) where
+  abbrev pub behind : List ℕ
+  behind = take (length s - at) (drop at s)
 
-pub pass_start : {s : List ℕ} {at : ℕ} → at ≤ length s → Passed s at at
-pass_start h = record { least = omega arith; most = h; each = λ i a b. absurd (omega arith) }
+  as_drop : behind ≡ drop at s
+  as_drop = take_all (length s - at) (drop at s) (omega (arith, length-drop at s))
 
-module _ {s : List ℕ} {at end : ℕ} (p : Passed s at end) where
-  pub pass_more : end < length s → (get_or s end 0 ≡ 0 → ⊥) → Passed s at (end + 1)
-  pass_more h n = record { least = omega (arith, p.least); most = omega arith; each = λ i a b e. go i e (p.each i a) (order i end) (omega arith) }
-    where
-      go : (i : ℕ) → get_or s i 0 ≡ 0 → (i < end → get_or s i 0 ≡ 0 → ⊥) → (i < end) ⊎ (end ≤ i) → i ≤ end → ⊥
-      go i e f (inl k) l = f k e
-      go i e f (inr k) l = let z : end ≡ i = omega arith in n (ap (λ (x : ℕ). get_or s x 0) z ∙ e)
-
-  -- the next byte is 0, or there is none
-  pub pass_end : (end < length s → get_or s end 0 ≡ 0) → WordCut s at end
-  pass_end z =
+  cut_at : (n : ℕ) → n ≤ length behind → AllWithin (λ x. x ≡ 0 → ⊥) behind 0 n → (n < length behind → get_or behind n 0 ≡ 0) → WordCut s at (at + n)
+  cut_at n m f z =
+      let e : at + n - at ≡ n = omega arith in
+      let k : suc (at + n) ≡ at + suc n = omega arith in
       let size = length-drop at s in
-      let here : at + (end - at) ≡ end = omega (arith, p.least) in
-      let behind : at + suc (end - at) ≡ end + 1 = omega (arith, p.least) in
+      let same = as_drop in
       record {
-        least = p.least;
-        most = p.most;
+        least = omega arith;
+        most = omega (arith, ap length same);
         cut = λ l.
-            first_cut (drop at s) (end - at) (omega (arith, p.least, p.most))
-            (λ i k e. p.each (at + i) (omega arith) (omega arith) (sym (get_or-drop at s i 0) ∙ e))
-            (λ k. get_or-drop at s (end - at) 0 ∙ ap (λ (x : ℕ). get_or s x 0) here ∙ z (omega (arith, p.least)))
-            (omega arith)
-            ∙ ap (λ (x : List ℕ). take (end - at) (drop at s) ∷ words_in x) (drop-drop (suc (end - at)) at s ∙ ap (λ (x : ℕ). drop x s) behind);
+            rw (e, add-one (at + n), k)
+            (first_cut (drop at s) n (omega (arith, ap length same))
+            (λ i b. rw same at (f i 0 (omega arith) b))
+            (λ b. rw same at (z (omega (arith, ap length same))))
+            (omega (arith, ap length same))
+            ∙ ap (λ (x : List ℕ). take n (drop at s) ∷ words_in x) (drop-drop (suc n) at s));
       }
+
+  pub cut_found : (n : ℕ) → (n < length behind) × HoldsAt (λ x. x ≡ 0) behind n × AllWithin (λ x. x ≡ 0 → ⊥) behind 0 n → WordCut s at (at + n)
+  cut_found n p = cut_at n (omega (arith, p.0)) p.2 (λ _. p.1 0)
+
+  pub cut_rest : AllWithin (λ x. x ≡ 0 → ⊥) behind 0 (length behind) → WordCut s at (length s)
+  cut_rest f =
+      let e : at + length behind ≡ length s = omega (arith, ap length as_drop, length-drop at s) in
+      rw e at (cut_at (length behind) (omega arith) f (λ l. absurd (omega arith)))
 
 -- the words from a place on
 pub words_from : (row : List ℕ) (at : ℕ) {vs : List (List ℕ)} → words_in (drop at row) ≡ vs → words_in (take (length row - at) (drop at row)) ≡ vs
@@ -116,11 +117,11 @@ module _ {s : List ℕ} {end : ℕ} (c : WordCut s 0 end) where
   unfolding service_asked
   asks_first h e = e ∙ sym (ap service_asked (first_of h))
 
-  pub further_behind : end < length s → words_in (drop (end + 1) s) ≡ further_words (words_in s)
+  further_behind : end < length s → words_in (drop (end + 1) s) ≡ further_words (words_in s)
   unfolding further_words
   further_behind h = sym (ap further_words (first_of (omega arith)))
 
-  pub further_none : length s ≤ end → words_in (drop end s) ≡ further_words (words_in s)
+  further_none : length s ≤ end → words_in (drop end s) ≡ further_words (words_in s)
   unfolding further_words
   further_none h = ap words_in (drop_of_length-le s h) ∙ no_words [] refl ∙ go (length s) refl
     where
@@ -128,32 +129,63 @@ module _ {s : List ℕ} {end : ℕ} (c : WordCut s 0 end) where
       go zero e = sym (ap further_words (no_words s e))
       go (suc n) e = sym (ap further_words (lone (omega arith) (omega arith)))
 
-  module _ (h : length s ≡ 0 → ⊥) (l : length s ≤ end + 1) where
-    pub one_size : (usual : ℕ) → size_said usual (words_in s) ≡ size_said usual (take end s ∷ [])
-    one_size usual = ap (size_said usual) (lone (omega (arith, h)) l)
+  pub further_from : {at : ℕ} → at ≡ min (end + 1) (length s) → (at ≤ length s) × (words_in (drop at s) ≡ further_words (words_in s))
+  further_from {at} e = (omega arith, go (order end (length s)))
+    where
+      go : (end < length s) ⊎ (length s ≤ end) → words_in (drop at s) ≡ further_words (words_in s)
+      go (inl h) = let z : at ≡ end + 1 = omega arith in rw z (further_behind h)
+      go (inr h) = let z : at ≡ end = omega (arith, c.most) in rw z (further_none h)
 
-    pub one_event : (names : List (List ℕ)) → one_event_said names (words_in s) ≡ one_event_said names (take end s ∷ [])
-    one_event names = ap (one_event_said names) (lone (omega (arith, h)) l)
+  pub only_one : 0 < length s → length s ≤ end + 1 → only_word (words_in s) ≡ some (take end s)
+  unfolding only_word
+  only_one h l = ap only_word (lone h l)
 
-  pub more_sizes : end + 1 < length s → (usual : ℕ) → none ≡ size_said usual (words_in s)
-  unfolding size_said
-  more_sizes h usual = two h (size_said usual) none (λ w v ws. refl)
-
-  pub more_events : end + 1 < length s → (names : List (List ℕ)) → none ≡ one_event_said names (words_in s)
-  unfolding one_event_said
-  more_events h names = two h (one_event_said names) none (λ w v ws. refl)
+  pub only_more : end + 1 < length s → only_word (words_in s) ≡ none
+  unfolding only_word
+  only_more h = sym (two h only_word none (λ w v ws. refl))
 
 pub asks_nothing : (s : List ℕ) → length s ≡ 0 → Check ≡ service_asked (words_in s)
 unfolding service_asked
 asks_nothing s h = sym (ap service_asked (no_words s h))
 
+pub only_none : (s : List ℕ) → length s ≡ 0 → only_word (words_in s) ≡ none
+unfolding only_word
+only_none s h = ap only_word (no_words s h)
+
+-- ---- what the only word says
+
 pub usual_size : (s : List ℕ) (usual : ℕ) → length s ≡ 0 → some usual ≡ size_said usual (words_in s)
 unfolding size_said
 usual_size s usual h = sym (ap (size_said usual) (no_words s h))
 
-pub no_event : (s : List ℕ) (names : List (List ℕ)) → length s ≡ 0 → none ≡ one_event_said names (words_in s)
-unfolding one_event_said
-no_event s names h = sym (ap (one_event_said names) (no_words s h))
+pub one_size : (usual : ℕ) (ws : List (List ℕ)) {w : List ℕ} → only_word ws ≡ some w → number_said 65535 w ≡ size_said usual ws
+unfolding only_word size_said
+one_size usual [] e = absurd (some-ne-none _ (sym e))
+one_size usual (v ∷ []) {w} e = ap (number_said 65535) (sym (some-injective v w e))
+one_size usual (v ∷ u ∷ ws) e = absurd (some-ne-none _ (sym e))
+
+pub no_size : (usual : ℕ) (s : List ℕ) → (length s ≡ 0 → ⊥) → only_word (words_in s) ≡ none → none ≡ size_said usual (words_in s)
+unfolding only_word size_said
+no_size usual s h = go (some_words s (omega (arith, h)))
+  where
+    by : (w : List ℕ) (ws : List (List ℕ)) → only_word (w ∷ ws) ≡ none → none ≡ size_said usual (w ∷ ws)
+    by w [] e = absurd (some-ne-none w e)
+    by w (v ∷ ws) e = refl
+
+    go : Some (words_in s) → only_word (words_in s) ≡ none → none ≡ size_said usual (words_in s)
+    go (words w ws q) e = by w ws (sym (ap only_word q) ∙ e) ∙ sym (ap (size_said usual) q)
+
+pub one_event : (names : List (List ℕ)) (ws : List (List ℕ)) {w : List ℕ} → only_word ws ≡ some w → event_said names w ≡ one_event_said names ws
+unfolding only_word one_event_said
+one_event names [] e = absurd (some-ne-none _ (sym e))
+one_event names (v ∷ []) {w} e = ap (event_said names) (sym (some-injective v w e))
+one_event names (v ∷ u ∷ ws) e = absurd (some-ne-none _ (sym e))
+
+pub no_event : (names : List (List ℕ)) (ws : List (List ℕ)) → only_word ws ≡ none → none ≡ one_event_said names ws
+unfolding only_word one_event_said
+no_event names [] e = refl
+no_event names (v ∷ []) e = absurd (some-ne-none v e)
+no_event names (v ∷ u ∷ ws) e = refl
 
 -- ---- the word with a number
 

@@ -1,14 +1,13 @@
 -- A row in which each word is ended by byte 0, and the same with byte 10 for each 0: a list of names.
-use Prim.Native.Nat.{ℕ, zero, suc, ◌+◌, ◌-◌, ◌<◌, ◌≤◌}
-use native.Mathlib.Numerals.{add-one}
+use Prim.Native.Nat.{ℕ, zero, suc, ◌-◌, ◌<◌, ◌≤◌}
 use native.Mathlib.Omega.{arith}
 use mathlib.Core.Path.{◌≡◌, refl, ap, sym, ◌∙◌, subst}
 use mathlib.Core.Bool.{Bool, true, false, cond}
 use mathlib.Core.List.{List, [], ◌∷◌, ◌++◌, map, flat_map, flatten, append-nil}
 use borrow.Author.Tests.{eqb-true}
 use lib.Dec.{eqb}
-use lib.ListN.{length, get_or, take, drop, set, length-append, length-set, length-drop, drop_of_length-le}
-use lib.Seq.{take_all, drop-cons, append_snoc, drop-set-lt, take-suc-set}
+use lib.ListN.{length, take, drop, length-append, length-drop, drop_of_length-le}
+use lib.Seq.{take_all}
 use Rattle.model.specs.BoardTable.{ended}
 use Rattle.command_line.specs.WordRow.{begun_by, words_in, row_of, EachEnded}
 use Rattle.command_line.proofs.Cutting.{Some, words, some_words}
@@ -79,29 +78,13 @@ pub record Turned (s row : List ℕ) (i : ℕ) : Type 0 where
   pub size : length row ≡ length s
   pub turned : map name_byte s ≡ take i row ++ map name_byte (drop i row)
 
-pub turned_none : {s : List ℕ} → Turned s s 0
-turned_none = record { size = refl; turned = refl }
-
 module _ {s row : List ℕ} {i : ℕ} (t : Turned s row i) where
-  pub turned_more : (b : ℕ) → i < length row → b ≡ name_byte (get_or row i 0) → Turned s (set row i b) (i + 1)
-  turned_more b l e =
-      record {
-        size = length-set row i b ∙ t.size;
-        turned =
-            t.turned
-            ∙ ap (λ (x : List ℕ). take i row ++ map name_byte x) (drop-cons row i 0 l)
-            ∙ ap (λ (x : ℕ). take i row ++ (x ∷ map name_byte (drop (suc i) row))) (sym e)
-            ∙ sym (append_snoc (take i row) b (map name_byte (drop (suc i) row)))
-            ∙ ap (λ (x : List ℕ). x ++ map name_byte (drop (suc i) row)) (sym (take-suc-set row i b l))
-            ∙ ap (λ (x : List ℕ). take (suc i) (set row i b) ++ map name_byte x) (sym (drop-set-lt (suc i) row i b (omega arith)))
-            ∙ ap (λ (k : ℕ). take k (set row i b) ++ map name_byte (drop k (set row i b))) (sym (add-one i));
-      }
-
-  pub turned_all : length row ≤ i → EachEnded s → row ≡ flat_map ended (words_in s)
+  pub turned_all : length s ≤ i → EachEnded s → row ≡ flat_map ended (words_in s)
   turned_all l h =
+      let k : length row ≤ i = omega (arith, t.size) in
       sym
       (t.turned
-      ∙ ap (λ (x : List ℕ). take i row ++ map name_byte x) (drop_of_length-le row l)
+      ∙ ap (λ (x : List ℕ). take i row ++ map name_byte x) (drop_of_length-le row k)
       ∙ append-nil (take i row)
-      ∙ take_all i row l)
+      ∙ take_all i row k)
       ∙ names_in_lem s h

@@ -10,7 +10,7 @@ pub mod Counting
 pub mod WholeNames
 -- the event that a word names
 pub mod Declaring
--- what a word says
+-- the number that a word says is small
 pub mod Saying
 -- words put into a row are read from it
 pub mod Rows

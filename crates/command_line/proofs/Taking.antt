@@ -8,8 +8,8 @@ use mathlib.Core.Option.{Option, none, some}
 use lib.ListN.{length, take, drop, set, length-set, drop_of_length-le}
 use lib.Seq.{drop-set-lt, drop-drop, take-suc-set, append_snoc}
 use Rattle.model.specs.Bytes as B
-use Rattle.command_line.specs.declared.Said.{Said}
-use Rattle.command_line.specs.declared.Said.TheVariants.{Neither, Number}
+use Rattle.std.specs.Prelude.{Some, None}
+use Rattle.std.specs.Prelude as Std
 use Rattle.command_line.specs.Words.{said, event_said}
 use Rattle.command_line.specs.WordRow.{words_in, WordCut, list_said, Lists}
 use Rattle.command_line.specs.Program.{before, events_said}
@@ -54,7 +54,7 @@ module _ {names : List B.Name} {s row : List ℕ} {n at : ℕ} (t : Taken names 
         ∙ drop-drop (end + 1 - at) at s
         ∙ ap (λ (k : ℕ). drop k s) z
 
-  module _ (l : at < length row) {end : ℕ} (c : WordCut row at end) (r : Said) (p : said r ≡ event_said names (take (end - at) (drop at row))) where
+  module _ (l : at < length row) {end : ℕ} (c : WordCut row at end) (r : Std.Option ℕ) (p : said r ≡ event_said names (take (end - at) (drop at row))) where
     next : events_said names (words_in s) ≡ following (take n row) (before (said r) (events_said names (words_in (drop (end + 1) s))))
     unfolding events_said
     next =
@@ -64,17 +64,17 @@ module _ {names : List B.Name} {s row : List ℕ} {n at : ℕ} (t : Taken names 
         ∙ ap (λ (x : List ℕ). following (take n row) (before (event_said names (take (end - at) (drop at row))) (events_said names (words_in x)))) (behind_same l c)
         ∙ ap (λ (o : Option ℕ). following (take n row) (before o (events_said names (words_in (drop (end + 1) s))))) (sym p)
 
-    pub taken_none : r ≡ Neither → Lists (events_said names (words_in s)) Neither row
+    pub taken_none : r ≡ None → Lists (events_said names (words_in s)) None row
     unfolding said before following list_said
     taken_none e =
         record {
           list =
               sym
-              (next ∙ ap (λ (x : Said). following (take n row) (before (said x) (events_said names (words_in (drop (end + 1) s))))) e);
+              (next ∙ ap (λ (x : Std.Option ℕ). following (take n row) (before (said x) (events_said names (words_in (drop (end + 1) s))))) e);
           within = λ k q. let z : ◌≡◌ {A = ℕ} 0 1 = cc in absurd (omega arith);
         }
 
-    pub taken_more : {e b : ℕ} → r ≡ Number e → b ≡ e → Taken names s (set row n b) (n + 1) (end + 1)
+    pub taken_more : {e b : ℕ} → r ≡ Some e → b ≡ e → Taken names s (set row n b) (n + 1) (end + 1)
     unfolding said
     taken_more {e} {b} q w =
         let short : n < length row = omega (arith, t.behind) in
@@ -85,7 +85,7 @@ module _ {names : List B.Name} {s row : List ℕ} {n at : ℕ} (t : Taken names 
           rest = drop-set-lt (end + 1) row n b (omega (arith, t.behind, c.least)) ∙ behind_same l c;
           events =
               next
-              ∙ ap (λ (x : Said). following (take n row) (before (said x) (events_said names (words_in (drop (end + 1) s))))) q
+              ∙ ap (λ (x : Std.Option ℕ). following (take n row) (before (said x) (events_said names (words_in (drop (end + 1) s))))) q
               ∙ following_one (take n row) e (events_said names (words_in (drop (end + 1) s)))
               ∙ ap (λ (x : List ℕ). following x (events_said names (words_in (drop (end + 1) s))))
               (ap (λ (x : ℕ). take n row ++ (x ∷ [])) (sym w)
@@ -93,7 +93,7 @@ module _ {names : List B.Name} {s row : List ℕ} {n at : ℕ} (t : Taken names 
               ∙ ap (λ (k : ℕ). take k (set row n b)) (sym (add-one n)));
         }
 
-  pub taken_all : length row ≤ at → Lists (events_said names (words_in s)) (Number n) row
+  pub taken_all : length row ≤ at → Lists (events_said names (words_in s)) (Some n) row
   unfolding following list_said events_said
   taken_all h =
       record {

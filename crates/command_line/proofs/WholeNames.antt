@@ -8,14 +8,14 @@ use borrow.Author.Tests.{eqb-true}
 use lib.Dec.{eqb, eqb-zero-suc, eqb-suc-suc}
 use lib.ListN.{length, take}
 use lib.Seq.{take-length}
+use Rattle.std.specs.Prelude.{Option, Some, None, MatchOption}
 use Rattle.model.specs.Lists.{every}
 use Rattle.model.specs.Bytes.{leading, is_name_byte, is_name}
 use Rattle.model.specs.Reading.{name}
 use Rattle.model.proofs.Laws.{T_true}
 use Rattle.model.proofs.Words.{guarded}
 use Rattle.lexer.specs.Words.{as_name}
-use Rattle.lexer.specs.declared.NameWord.{NameWord}
-use Rattle.lexer.specs.declared.NameWord.TheVariants.{Missing, Found}
+use Rattle.lexer.specs.declared.NameAt.{NameAt}
 use Rattle.lexer.proofs.Answers.{name_got}
 use Rattle.command_line.specs.Words.{is_name_word}
 
@@ -43,16 +43,23 @@ module _ (w : List ℕ) where
       go false e = refl
 
   -- r is the code's answer to a name at the beginning of the word
-  module _ {r : NameWord} (p : r ≡ as_name (name w 0)) where
-    pub no_name : r ≡ Missing → false ≡ is_name_word w
+  module _ {r : Option NameAt} (p : r ≡ as_name (name w 0)) where
+    pub no_name : r ≡ None → false ≡ is_name_word w
     no_name m = go (is_name (take run w)) refl
       where
         go : (t : Bool) → is_name (take run w) ≡ t → false ≡ is_name_word w
         go true e = let z : ◌≡◌ {A = ℕ} 0 1 = cc in absurd (omega arith)
         go false e = sym (by_run ∙ rw (e, and-false))
 
-    pub name_to_end : {l h o next : ℕ} → r ≡ Found l h o next → eqb next (length w) ≡ is_name_word w
-    name_to_end {next = next} m =
+    pub name_to_end : {f : NameAt} → r ≡ Some f → eqb f.next (length w) ≡ is_name_word w
+    name_to_end {f} m =
         guarded (is_name (take run w)) (name_got (name w 0) p m).read λ t _ e.
-        let z : next ≡ run = omega arith in
+        let z : f.next ≡ run = omega arith in
         sym (by_run ∙ rw (T_true (is_name (take run w)) t, and-true, z))
+
+    pub name_told : MatchOption r (false ≡ is_name_word w) (λ f. eqb f.next (length w) ≡ is_name_word w)
+    name_told = go r refl
+      where
+        go : (q : Option NameAt) → r ≡ q → MatchOption q (false ≡ is_name_word w) (λ f. eqb f.next (length w) ≡ is_name_word w)
+        go None m = no_name m
+        go (Some f) m = name_to_end m

@@ -1,8 +1,7 @@
 -- The words of a command line in one row of bytes, each ended by byte 0, which no word of a command line has. What stands after the last byte 0 is a word too.
-use Rattle.std.specs.Prelude.{ℕ, ◌+◌, ◌-◌, ◌<◌, ◌≤◌, ◌≡◌, cond, List, [], ◌∷◌, ◌++◌, eqb, length, take, drop}
+use Rattle.std.specs.Prelude.{ℕ, ◌+◌, ◌-◌, ◌<◌, ◌≤◌, ◌≡◌, cond, List, [], ◌∷◌, ◌++◌, eqb, length, take, drop, Some, None}
+use Rattle.std.specs.Prelude as Std
 use Rattle.std.proofs.Math.Option.{Option, none, some}
-use Rattle.command_line.specs.declared.Said.{Said}
-use Rattle.command_line.specs.declared.Said.TheVariants.{Neither, Number}
 
 -- the first word begins with this byte
 unfoldable pub begun_by : ℕ → List (List ℕ) → List (List ℕ)
@@ -33,12 +32,18 @@ pub record BeginsAt (number : ℕ) (s : List ℕ) (at : ℕ) : Type 0 where
   pub most : at ≤ length s
   pub others : words_in (drop at s) ≡ drop (number - 1) (words_in s)
 
+-- the word of a row that has no other
+unfoldable pub only_word : List (List ℕ) → Option (List ℕ)
+only_word [] = none
+only_word (w ∷ []) = some w
+only_word (w ∷ v ∷ ws) = none
+
 -- so many numbers at the beginning of a row
-unfoldable pub list_said : Said → List ℕ → Option (List ℕ)
-list_said Neither row = none
-list_said (Number n) row = some (take n row)
+unfoldable pub list_said : Std.Option ℕ → List ℕ → Option (List ℕ)
+list_said None row = none
+list_said (Some n) row = some (take n row)
 
 -- these numbers stand there
-pub record Lists (said : Option (List ℕ)) (r : Said) (row : List ℕ) : Type 0 where
+pub record Lists (said : Option (List ℕ)) (r : Std.Option ℕ) (row : List ℕ) : Type 0 where
   pub list : list_said r row ≡ said
-  pub within : (n : ℕ) → r ≡ Number n → n ≤ length row
+  pub within : (n : ℕ) → r ≡ Some n → n ≤ length row

@@ -1,5 +1,6 @@
 -- What the words of a command line say. A figure or a name is as document 01 has it, but for the number of digits: a size has more than three.
-use Rattle.std.specs.Prelude.{ℕ, min, Bool, true, false, not, cond, ◌&&◌, ◌||◌, List, [], ◌∷◌, leb, eqb, length, get_or}
+use Rattle.std.specs.Prelude.{ℕ, min, Bool, true, false, not, cond, ◌&&◌, ◌||◌, List, [], ◌∷◌, leb, eqb, length, get_or, Some, None}
+use Rattle.std.specs.Prelude as Std
 use Rattle.std.proofs.Math.Option.{Option, none, some}
 use Rattle.model.specs.Lists.{every}
 use Rattle.model.specs.Bytes as B
@@ -7,8 +8,6 @@ use Rattle.model.specs.Bytes.{bytes, is_digit, is_name_byte, is_name, decimal}
 use Rattle.model.specs.Text.{event_number}
 use Rattle.command_line.specs.declared.Service.{Service}
 use Rattle.command_line.specs.declared.Service.TheVariants.{Check, Steps, Name, Run, Thin, Merge, Quote, Sheet, Board, Help, Explain, Unknown}
-use Rattle.command_line.specs.declared.Said.{Said}
-use Rattle.command_line.specs.declared.Said.TheVariants.{Neither, Number}
 
 -- the same bytes, whatever makes two names one event
 abbrev pub same_word : List ℕ → List ℕ → Bool
@@ -38,9 +37,9 @@ is_numeral w = leb 1 (length w) && ((eqb (length w) 1 || not (eqb (get_or w 0 0)
 unfoldable pub is_name_word : List ℕ → Bool
 is_name_word w = every is_name_byte w && is_name w
 
-unfoldable pub said : Said → Option ℕ
-said Neither = none
-said (Number n) = some n
+unfoldable pub said : Std.Option ℕ → Option ℕ
+said None = none
+said (Some n) = some n
 
 -- a number, or the most that tells it from others
 unfoldable pub number_said : ℕ → List ℕ → Option ℕ

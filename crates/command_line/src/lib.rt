@@ -1,24 +1,23 @@
 // The words of a command line: the service that is asked for, and the number or the event that a word says.
 #![tactic(auto)]
 
-ghost use Rattle.std.specs.Prelude.{◌≡◌, cond, ℕ, ◌≤◌, ◌<◌, eqb, length, drop};
+ghost use Rattle.std.specs.Prelude.{◌≡◌, ℕ, ◌≤◌, ◌<◌, length, drop, MatchOption};
+ghost use Rattle.std.specs.Option.{unwrap_or};
 ghost use mathlib.Core.List.{flat_map};
-ghost use Rattle.std.proofs.Math.Option.{some};
+ghost use Rattle.std.proofs.Math.Option.{none, some};
+ghost use Rattle.model.specs.Bytes.{same_name};
 ghost use Rattle.model.specs.BoardTable.{ended};
 ghost use Rattle.model.specs.Text.{event_number};
-ghost use Rattle.rows.specs.Names.{names_in};
+ghost use Rattle.rows.specs.Names.{row_names};
 ghost use Rattle.command_line.specs.Words.{service_said, is_name_word, said, event_said};
-ghost use Rattle.command_line.specs.WordRow.{words_in, EachEnded, WordCut, BeginsAt, Lists};
+ghost use Rattle.command_line.specs.WordRow.{words_in, only_word, EachEnded, WordCut, BeginsAt, Lists};
 ghost use Rattle.command_line.specs.Program.{service_asked, further_words, size_said, one_event_said, events_said};
 ghost use Rattle.command_line.specs.Names.{NameRows};
 
-use comparing::same_name;
-pub use comparing::same_word;
-use lexer::{NameWord, read_name};
+use lexer::read_name;
 pub use numerals::{is_numeral, number_said};
-use rows::narrow;
+use rows::Tables;
 
-mod comparing; // words and names compared
 mod numerals; // numerals, and the numbers that they write
 
 #[derive(Clone, Copy)]
@@ -37,48 +36,28 @@ pub enum Service {
     Unknown,
 }
 
-// What a word says: a number, or nothing that can be meant.
-#[derive(Drop)]
-pub enum Said {
-    Neither,
-    Number(usize),
-}
+// The services by their names.
+const SERVICES: [(&[u8], Service); 11] = [
+    (b"check", Service::Check),
+    (b"steps", Service::Steps),
+    (b"name", Service::Name),
+    (b"run", Service::Run),
+    (b"thin", Service::Thin),
+    (b"merge", Service::Merge),
+    (b"quote", Service::Quote),
+    (b"sheet", Service::Sheet),
+    (b"board", Service::Board),
+    (b"help", Service::Help),
+    (b"explain", Service::Explain),
+];
 
 fn service_said(word: &[u8]) -> Service
     ensures { result ≡ service_said word.now }
 {
-    if same_word(word, b"check") {
-        return Service::Check;
-    }
-    if same_word(word, b"steps") {
-        return Service::Steps;
-    }
-    if same_word(word, b"name") {
-        return Service::Name;
-    }
-    if same_word(word, b"run") {
-        return Service::Run;
-    }
-    if same_word(word, b"thin") {
-        return Service::Thin;
-    }
-    if same_word(word, b"merge") {
-        return Service::Merge;
-    }
-    if same_word(word, b"quote") {
-        return Service::Quote;
-    }
-    if same_word(word, b"sheet") {
-        return Service::Sheet;
-    }
-    if same_word(word, b"board") {
-        return Service::Board;
-    }
-    if same_word(word, b"help") {
-        return Service::Help;
-    }
-    if same_word(word, b"explain") {
-        return Service::Explain;
+    for (name, service) in &SERVICES {
+        if word == *name {
+            return *service;
+        }
     }
     Service::Unknown
 }
@@ -87,55 +66,41 @@ fn service_said(word: &[u8]) -> Service
 pub fn is_name(word: &[u8]) -> bool
     ensures { result ≡ is_name_word word.now }
 {
-    let NameWord::Found {
-        len: _,
-        high: _,
-        low: _,
-        next,
-    } = read_name(word, 0)
-    else {
-        return false;
-    };
-    next == word.len()
+    read_name(word, 0).is_some_and(|name| name.next == word.len())
 }
 
-// The number of the event with this name; the count of events if there is none.
-fn event_named<'a>(
-    text: &[u8],
-    ats: &'a [usize],
-    lens: &'a [usize],
-    events: usize,
-    word: &[u8],
-) -> usize
-    requires { NameRows text.now ats.now lens.now events }
-    ensures { result ≡ event_number (names_in text.now ats.now lens.now events) word.now }
+// Are the two one event: the same bytes, or the same letters in the other case.
+#[tactic(auto, using(crate::proofs::Matching::same_small, crate::proofs::Matching::small_same))]
+fn same_name(a: &[u8], b: &[u8]) -> bool
+    ensures { result ≡ same_name a.now b.now }
 {
-    let mut e = 0;
-    while e < events {
-        let from = ats[e];
-        let end = from + lens[e];
+    a.eq_ignore_ascii_case(b)
+}
+
+// The number of the event with this name.
+fn event_named(text: &[u8], plan: &Tables, word: &[u8]) -> Option<usize>
+    requires { NameRows text.now plan.now }
+    ensures { unwrap_or result plan.now.counts.events ≡ event_number (row_names text.now plan.now) word.now }
+{
+    for e in 0..plan.counts.events {
+        let from = plan.name_at[e];
+        let end = from + plan.name_len[e];
         if same_name(word, &text[from..end]) {
-            return e;
+            return Some(e);
         }
-        e += 1;
     }
-    events
+    None
 }
 
 // The event that a word says by its name or its number. One that is not declared is the count of events, or a number up to 255.
-fn event_said<'a>(
-    text: &[u8],
-    ats: &'a [usize],
-    lens: &'a [usize],
-    events: usize,
-    word: &[u8],
-) -> Said
-    requires { NameRows text.now ats.now lens.now events }
-    ensures result_value { said result ≡ event_said (names_in text.now ats.now lens.now events) word.now }
+#[tactic(auto, using(crate::proofs::Saying::event_small, crate::proofs::Saying::number_small), unfolding(crate::specs::Words::said, crate::specs::Words::event_said))]
+fn event_said(text: &[u8], plan: &Tables, word: &[u8]) -> Option<usize>
+    requires { NameRows text.now plan.now }
+    ensures result_value { said result ≡ event_said (row_names text.now plan.now) word.now }
     ensures by_index { (n : ℕ) → said result ≡ some n → n < 256 }
 {
     if is_name(word) {
-        return Said::Number(event_named(text, ats, lens, events, word));
+        return Some(event_named(text, plan, word).unwrap_or(plan.counts.events));
     }
     number_said(word, 255)
 }
@@ -147,50 +112,54 @@ pub fn word_end(words: &[u8], at: usize) -> usize
     requires { at ≤ length words.now }
     ensures { WordCut words.now at result }
 {
-    let mut end = at;
-    while end < words.len() {
-        if words[end] == 0 {
-            return end;
-        }
-        end += 1;
+    match words[at..].iter().position(|b| *b == 0) {
+        Some(len) => at + len,
+        None => words.len(),
     }
-    end
 }
 
 // The service that the first word asks for; with no word the program checks.
+#[tactic(auto, using(crate::proofs::Cutting::asks_nothing))]
 pub fn service_asked(words: &[u8]) -> Service
     ensures { result ≡ service_asked (words_in words.now) }
 {
-    if words.len() > 0 {
-        let end = word_end(words, 0);
-        return service_said(&words[..end]);
+    if words.is_empty() {
+        return Service::Check;
     }
-    Service::Check
+    service_said(&words[..word_end(words, 0)])
 }
 
 // Where the words after the first begin.
 pub fn second_word(words: &[u8]) -> usize
     ensures { (result ≤ length words.now) × (words_in (drop result words.now) ≡ further_words (words_in words.now)) }
 {
-    let end = word_end(words, 0);
-    if end < words.len() {
-        return end + 1;
-    }
-    end
+    (word_end(words, 0) + 1).min(words.len())
 }
 
-// The size that one word says, or the usual one where there is no word.
-pub fn size_said(words: &[u8], usual: usize) -> Said
-    ensures { said result ≡ size_said usual (words_in words.now) }
+// The word of a row that has no other.
+#[tactic(auto, using(crate::proofs::Cutting::only_none, crate::proofs::Cutting::only_more, crate::proofs::Cutting::only_one))]
+fn only_word(words: &[u8]) -> Option<&[u8]>
+    ensures { MatchOption result (only_word (words_in words.now) ≡ none) (λ w. only_word (words_in words.now) ≡ some w.now) }
 {
-    if words.len() == 0 {
-        return Said::Number(usual);
+    if words.is_empty() {
+        return None;
     }
     let end = word_end(words, 0);
     if end + 1 < words.len() {
-        return Said::Neither;
+        return None;
     }
-    number_said(&words[..end], 65535)
+    Some(&words[..end])
+}
+
+// The size that one word says, or the usual one where there is no word.
+#[tactic(auto, using(crate::proofs::Cutting::usual_size, crate::proofs::Cutting::no_size, crate::proofs::Cutting::one_size), unfolding(crate::specs::Words::said))]
+pub fn size_said(words: &[u8], usual: usize) -> Option<usize>
+    ensures { said result ≡ size_said usual (words_in words.now) }
+{
+    if words.is_empty() {
+        return Some(usual);
+    }
+    number_said(only_word(words)?, 65535)
 }
 
 // Where the word with this number begins, and the others after it; the end of the row if there is none.
@@ -198,68 +167,39 @@ pub fn word_begin(words: &[u8], number: usize) -> usize
     ensures { BeginsAt number words.now result }
 {
     let mut at = 0;
-    let mut n = 1;
-    while n < number {
+    for _ in 1..number {
         at += second_word(&words[at..]);
-        n += 1;
     }
     at
 }
 
 // The event that one word says.
-pub fn one_event_said<'a>(
-    words: &[u8],
-    text: &[u8],
-    ats: &'a [usize],
-    lens: &'a [usize],
-    events: usize,
-) -> Said
-    requires { NameRows text.now ats.now lens.now events }
-    ensures { said result ≡ one_event_said (names_in text.now ats.now lens.now events) (words_in words.now) }
+#[tactic(auto, using(crate::proofs::Cutting::no_event, crate::proofs::Cutting::one_event), unfolding(crate::specs::Words::said))]
+pub fn one_event_said(words: &[u8], text: &[u8], plan: &Tables) -> Option<usize>
+    requires { NameRows text.now plan.now }
+    ensures { said result ≡ one_event_said (row_names text.now plan.now) (words_in words.now) }
 {
-    if words.len() == 0 {
-        return Said::Neither;
-    }
-    let end = word_end(words, 0);
-    if end + 1 < words.len() {
-        return Said::Neither;
-    }
-    event_said(text, ats, lens, events, &words[..end])
+    event_said(text, plan, only_word(words)?)
 }
 
-// The events that the words say, one for each, at the beginning of the row: how many, or Neither where a word says none. A word has a byte of its
+// The events that the words say, one for each, at the beginning of the row: how many, or None where a word says none. A word has a byte of its
 // own at least, so each event has its place before the words that are still to be read.
-pub fn events_said<'a>(
-    words: &mut [u8],
-    text: &[u8],
-    ats: &'a [usize],
-    lens: &'a [usize],
-    events: usize,
-) -> Said
-    requires { NameRows text.now ats.now lens.now events }
-    ensures { Lists (events_said (names_in text.now ats.now lens.now events) (words_in words.old)) result words.new }
+#[tactic(auto, unfolding(crate::specs::Words::said))]
+pub fn events_said(words: &mut [u8], text: &[u8], plan: &Tables) -> Option<usize>
+    requires { NameRows text.now plan.now }
+    ensures { Lists (events_said (row_names text.now plan.now) (words_in words.old)) result words.new }
 {
+    // no iterator over the words: it would borrow the row, whose beginning is written over
     let mut n = 0;
     let mut at = 0;
     while at < words.len() {
         let end = word_end(words, at);
-        let Said::Number(e) = event_said(text, ats, lens, events, &words[at..end]) else {
-            return Said::Neither;
-        };
-        words[n] = narrow(e);
+        let event = event_said(text, plan, &words[at..end])?;
+        words[n] = event as u8;
         n += 1;
         at = end + 1;
     }
-    Said::Number(n)
-}
-
-fn name_byte(byte: u8) -> u8
-    ensures { result ≡ cond (eqb byte 0) 10 byte }
-{
-    if byte == 0 {
-        return b'\n';
-    }
-    byte
+    Some(n)
 }
 
 // The words as a list of names, each ended by byte 10, in their own row.
@@ -267,9 +207,9 @@ pub fn names_said(words: &mut [u8])
     requires { EachEnded words.old }
     ensures { words.new ≡ flat_map ended (words_in words.old) }
 {
-    let mut i = 0;
-    while i < words.len() {
-        words[i] = name_byte(words[i]);
-        i += 1;
+    for b in words.iter_mut() {
+        if *b == 0 {
+            *b = b'\n';
+        }
     }
 }

@@ -5,6 +5,7 @@ use mathlib.Core.Path.{◌≡◌, refl, ap, ap₂, sym, ◌∙◌}
 use mathlib.Core.List.{List, [], ◌∷◌}
 use lib.ListN.{length, get_or}
 use lib.Seq.{ext_get_or}
+use Rattle.std.specs.Prelude.{Result, Ok, Err}
 use Rattle.model.specs.declared.Refusal as D
 use Rattle.model.specs.declared.Refusal.TheVariants as C
 use Rattle.model.specs.Cases.{tabled}
@@ -15,8 +16,6 @@ use Rattle.product.specs.declared.Outcome.{Outcome}
 use Rattle.product.specs.declared.Outcome.TheVariants as O
 use Rattle.product.specs.declared.RunAnswer.{RunAnswer}
 use Rattle.product.specs.Answers.{outcome_is, run_answer}
-use Rattle.answers.specs.declared.Answer.{Answer}
-use Rattle.answers.specs.declared.Answer.TheVariants as A
 use Rattle.answers.specs.Answers.{answered}
 use Rattle.flat.specs.declared.FlatAnswer.{FlatAnswer}
 use Rattle.flat.specs.declared.FlatRun.{FlatRun}
@@ -45,12 +44,12 @@ tabled_numbered (C.BadSheet line) = omega arith
 -- ---- a call on a lent list
 
 -- the four numbers tell the refusal with its details, or how many entries are written
-pub flat_answer_injective : (a b : Answer) → flat_answer (answered a) ≡ flat_answer (answered b) → answered a ≡ answered b
+pub flat_answer_injective : (a b : Result ℕ D.Refusal) → flat_answer (answered a) ≡ flat_answer (answered b) → answered a ≡ answered b
 unfolding flat_answer answered
-flat_answer_injective (A.Refused x) (A.Refused y) e = ap (λ (t : FlatAnswer). refused (refuse t.number t.detail t.second)) e
-flat_answer_injective (A.Refused x) (A.Accepted n) e = absurd (omega (arith, tabled_numbered x, ap (λ (t : FlatAnswer). t.number) e))
-flat_answer_injective (A.Accepted m) (A.Refused y) e = absurd (omega (arith, tabled_numbered y, ap (λ (t : FlatAnswer). t.number) e))
-flat_answer_injective (A.Accepted m) (A.Accepted n) e = ap (λ (t : FlatAnswer). passed t.size) e
+flat_answer_injective (Err x) (Err y) e = ap (λ (t : FlatAnswer). refused (refuse t.number t.detail t.second)) e
+flat_answer_injective (Err x) (Ok n) e = absurd (omega (arith, tabled_numbered x, ap (λ (t : FlatAnswer). t.number) e))
+flat_answer_injective (Ok m) (Err y) e = absurd (omega (arith, tabled_numbered y, ap (λ (t : FlatAnswer). t.number) e))
+flat_answer_injective (Ok m) (Ok n) e = ap (λ (t : FlatAnswer). passed t.size) e
 
 -- ---- a run
 

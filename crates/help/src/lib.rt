@@ -1,8 +1,6 @@
 // What the program says of itself: which word is wrong, help, how a text is written, and what each refusal means.
 #![tactic(auto)]
 
-ghost use Rattle.std.specs.Prelude.{◌≤◌, length};
-
 pub use explanations::put_explanation;
 use std::io::Print;
 
@@ -22,17 +20,7 @@ fn put_usage(out: &impl Print) {
 
 // A word that can be shown in a line: 1 to 40 bytes from ! to ~.
 fn is_plain(word: &[u8]) -> bool {
-    let mut i = 0;
-    while i < word.len() {
-        if word[i] <= b' ' {
-            return false;
-        }
-        if word[i] > b'~' {
-            return false;
-        }
-        i += 1;
-    }
-    (1 <= i) & (i <= 40)
+    (1..=40).contains(&word.len()) && word.iter().all(|b| b.is_ascii_graphic())
 }
 
 fn put_number(out: &impl Print, number: usize) {
@@ -119,48 +107,4 @@ pub fn put_text_form(out: &impl Print) {
           place with all states, here (machine (0 1 2 3)). ./split steps then checks the\n\
           plan, as far as refusal 7; ./split refuses it by 11 if it has an event.\n",
     );
-}
-
-// A detail, or the letter that stands for it.
-fn put_detail(out: &impl Print, detail: &[u8], letter: &[u8]) {
-    if detail.len() > 0 {
-        put(out, detail);
-    } else {
-        put(out, letter);
-    }
-}
-
-// Where the next detail stands in the text, or the text ends.
-fn detail_at(text: &[u8], from: usize) -> usize
-    requires { from ≤ length text.now }
-    ensures { (from ≤ result) × (result ≤ length text.now) }
-{
-    let mut at = from;
-    while at < text.len() {
-        if text[at] == b'%' {
-            return at;
-        }
-        if text[at] == b'#' {
-            return at;
-        }
-        at += 1;
-    }
-    at
-}
-
-// A text with the first detail for each % and the second for each #.
-fn put_filled(out: &impl Print, text: &[u8], first: &[u8], second: &[u8]) {
-    let mut from = 0;
-    while from < text.len() {
-        let at = detail_at(text, from);
-        put(out, &text[from..at]);
-        if at < text.len() {
-            if text[at] == b'%' {
-                put_detail(out, first, b"A");
-            } else {
-                put_detail(out, second, b"B");
-            }
-        }
-        from = at + 1;
-    }
 }

@@ -1,7 +1,7 @@
 -- A machine is one of those that are kept, event by event.
 use Prim.Native.Nat.{ℕ, ◌+◌, ◌<◌, ◌≤◌}
 use native.Mathlib.Omega.{arith}
-use mathlib.Core.Path.{◌≡◌, refl, sym, ◌∙◌}
+use mathlib.Core.Path.{◌≡◌, sym, ◌∙◌}
 use mathlib.Core.Logic.{◌⊎◌, inl, inr}
 use mathlib.Core.Bool.{Bool, false, ◌&&◌, ◌||◌}
 use mathlib.Core.List.{List}
@@ -13,7 +13,6 @@ use Rattle.state_set.specs.Member.{member}
 use Rattle.state_set.specs.Rows.{set_at, member_at, Stored}
 use Rattle.state_set.proofs.Rows.{stored_here, stored_else}
 use Rattle.closure.specs.Covers.{on_machine, meets}
-use Rattle.irredundant.specs.Kept.{Adds}
 
 -- done for the first e events, and the entries of the others are as they were
 pub record Adding (sets pre : List ℕ) (m events : ℕ) (above : List ℕ) (onAbove : List Bool) (above2 : List ℕ)
@@ -27,18 +26,6 @@ pub record Adding (sets pre : List ℕ) (m events : ℕ) (above : List ℕ) (onA
   pub off : (j : ℕ) → e ≤ j → get_or onAbove2 j false ≡ get_or onAbove j false
 
 module _ {sets pre : List ℕ} {m events : ℕ} {above : List ℕ} {onAbove : List Bool} where
-  pub add_start : Adding sets pre m events above onAbove above onAbove 0
-  add_start =
-      record {
-        most = omega arith;
-        above_size = refl;
-        on_size = refl;
-        common = λ j i l. absurd (omega arith);
-        on = λ j l. absurd (omega arith);
-        rest = λ j i l. refl;
-        off = λ j l. refl;
-      }
-
   -- a is the set of event e, b what is met, and t whether the event is on the machine
   pub add_more :
       {row row2 : List ℕ} {marks : List Bool} {e : ℕ} {t : Bool} (a b : StateSet) → events ≤ 64 → length onAbove ≡ 64
@@ -64,13 +51,3 @@ module _ {sets pre : List ℕ} {m events : ℕ} {above : List ℕ} {onAbove : Li
       on_at : (j : ℕ) → (j < e) ⊎ (j ≡ e) → get_or (set marks e (get_or marks e false || t)) j false ≡ (get_or onAbove j false || on_machine pre j m)
       on_at j (inl h) = get_or-set_other marks e j _ false (λ p. omega arith) ∙ x.on j h
       on_at j (inr h) = rw h (get_or-set_same marks e _ false (omega (arith, x.on_size)) ∙ rw (u, x.off e (omega arith)))
-
-  pub add_end : {row : List ℕ} {marks : List Bool} {e : ℕ} → Adding sets pre m events above onAbove row marks e → events ≤ e
-      → Adds sets pre m events above onAbove row marks
-  add_end x l =
-      record {
-        above_size = x.above_size;
-        on_size = x.on_size;
-        common = λ j i h. x.common j i (omega arith);
-        on = λ j h. x.on j (omega arith);
-      }

@@ -8,7 +8,7 @@ use mathlib.Core.List.{List, [], ◌∷◌}
 use mathlib.Core.Option.{none}
 use mir.Val.{bool_byte}
 use lib.ListN.{length, get_or, drop, replicate, length-drop}
-use lib.Pow.{pow_pos, pow_mono}
+use lib.Pow.{pow_pos}
 use lib.Seq.{drop-cons, drop-length}
 use Rattle.model.specs.Lists.{At, count}
 use Rattle.model.specs.TransitionSystem.{TransitionSystem}
@@ -18,25 +18,23 @@ use Rattle.model.proofs.Positions.{below_at, at_value}
 use Rattle.state_set.proofs.Sets.{full_word}
 use Rattle.model.specs.declared.Refusal as D
 use Rattle.rows.specs.declared.Counts.{Counts}
-use Rattle.rows.specs.declared.Verdict.{Verdict}
-use Rattle.rows.specs.declared.Verdict.TheVariants.{Refused, Passed}
 use Rattle.rows.specs.Tables.{verdict_refusal}
 use Rattle.closure.specs.Covers.{PlaceSets, SetsTold, CoverJudged}
 use Rattle.closure.proofs.Cover.{sets_told}
 use Rattle.irredundant.specs.declared.Kept.{Kept}
-use Rattle.irredundant.specs.declared.Reduction.TheVariants as R
+use Rattle.std.specs.Prelude.{Result, Ok, Err}
 use Rattle.irredundant.specs.Kept.{set_number, ThinsTo, ThinsBySets, Thins, Below, Adds, redundant}
 use Rattle.irredundant.proofs.Beside.{Tells, tells_none, tells_more, select_without, suffices_same}
 
--- the rows once a machine is examined: those with it if it stays, or those that there were
-pub data Next (sets pre : List ℕ) (m events : ℕ) (stays : Bool) (above : List ℕ) (onAbove : List Bool) (above2 : List ℕ)
+-- the rows once a machine is examined, and r says that it is redundant: those with it if it stays, or those that there were
+pub data Next (sets pre : List ℕ) (m events : ℕ) (r : Bool) (above : List ℕ) (onAbove : List Bool) (above2 : List ℕ)
     (onAbove2 : List Bool) : Type 0 where
-  added : (row : List ℕ) (marks : List Bool) → stays ≡ true → Adds sets pre m events above onAbove row marks → above2 ≡ row → onAbove2 ≡ marks
-      → Next sets pre m events stays above onAbove above2 onAbove2
-  same : stays ≡ false → above2 ≡ above → onAbove2 ≡ onAbove → Next sets pre m events stays above onAbove above2 onAbove2
+  added : (row : List ℕ) (marks : List Bool) → r ≡ false → Adds sets pre m events above onAbove row marks → above2 ≡ row → onAbove2 ≡ marks
+      → Next sets pre m events r above onAbove above2 onAbove2
+  same : r ≡ true → above2 ≡ above → onAbove2 ≡ onAbove → Next sets pre m events r above onAbove above2 onAbove2
 
-next_sizes : {sets pre : List ℕ} {m events : ℕ} {stays : Bool} {above above2 : List ℕ} {onAbove onAbove2 : List Bool}
-    → Next sets pre m events stays above onAbove above2 onAbove2
+next_sizes : {sets pre : List ℕ} {m events : ℕ} {r : Bool} {above above2 : List ℕ} {onAbove onAbove2 : List Bool}
+    → Next sets pre m events r above onAbove above2 onAbove2
     → (length above2 ≡ length above) × (length onAbove2 ≡ length onAbove)
 next_sizes (added row marks t g p q) = (rw p g.above_size, rw q g.on_size)
 next_sizes (same t p q) = (ap length p, ap length q)
@@ -95,19 +93,19 @@ module _ {ts : TransitionSystem} {ms : Decomposition} {pre post sets excited : L
     machines_more m a = drop-cons ms k m low ∙ ap (λ (n : Machine). n ∷ drop (suc k) ms) (at_value ms k m m a)
 
     rows_more : {above2 : List ℕ} {onAbove2 : List Bool} (b : Bool) → Next sets pre k ts.events b above onAbove above2 onAbove2
-        → (m : Machine) → At ms k m → Tells ts (select (b ∷ marks) (m ∷ drop (suc k) ms)) above2 onAbove2
+        → (m : Machine) → At ms k m → Tells ts (select (not b ∷ marks) (m ∷ drop (suc k) ms)) above2 onAbove2
     unfolding select
     rows_more b (added row on t g p q) m a = rw (t, p, q) (tells_more told k x.rows m a g)
     rows_more b (same t p q) m a = rw (t, p, q) x.rows
 
-    examined_more : {above2 : List ℕ} {onAbove2 : List Bool} → Next sets pre k ts.events (not r) above onAbove above2 onAbove2
+    examined_more : {above2 : List ℕ} {onAbove2 : List Bool} → Next sets pre k ts.events r above onAbove above2 onAbove2
         → Examined ts ms above2 onAbove2 (kept * 2 + bool_byte (not r)) (size + bool_byte (not r)) k
     examined_more g =
         let w = below_at ms k low in
         record {
           number = rw marks_more (number_more (not r) marks x.number);
           counted = rw marks_more (count_more (not r) marks x.counted);
-          rows = rw (marks_more, machines_more w.0 w.1) (rows_more (not r) g w.0 w.1);
+          rows = rw (marks_more, machines_more w.0 w.1) (rows_more r g w.0 w.1);
         }
 
 -- ---- the loop
@@ -137,19 +135,12 @@ module _ {excited sets pre : List ℕ} {machines events : ℕ} where
         marks = λ ts ms post told a b. rw a (examined_none told);
       }
 
-  -- one digit more has room in 16
-  pub thin_room : {above : List ℕ} {onAbove : List Bool} {kept size left : ℕ}
-      → Thinning excited sets pre machines events above onAbove kept size left → machines ≤ 16 → 0 < left → kept < 32768
-  thin_room {left = left} t l h =
-      let p : 2 ^ (machines - left) ≤ 2 ^ 15 = pow_mono {i = machines - left} {j = 15} (omega arith) in
-      omega (arith, t.low, p)
-
   -- machine m is examined, and r says that it is redundant
   pub thin_more :
       {below above above2 : List ℕ} {onAbove onAbove2 : List Bool} {kept size left m : ℕ} {r : Bool} → Below sets pre machines events below
       → Thinning excited sets pre machines events above onAbove kept size left → left ≡ suc m
       → r ≡ redundant pre below above onAbove excited (m + size) m events
-      → Next sets pre m events (not r) above onAbove above2 onAbove2
+      → Next sets pre m events r above onAbove above2 onAbove2
       → Thinning excited sets pre machines events above2 onAbove2 (kept * 2 + bool_byte (not r)) (size + bool_byte (not r)) m
   thin_more {below} {above} {above2} {onAbove} {onAbove2} {kept} {size} {left} {m} {r} before t q v g =
       record {
@@ -177,13 +168,13 @@ module _ {excited sets pre : List ℕ} {machines events : ℕ} where
       }
 
 -- ---- 11 and 12, and then what is kept
-module _ {c : Counts} {pre place excited : List ℕ} {v : Verdict} (judged : CoverJudged c pre place excited v) where
-  pub thin_refused : {why : D.Refusal} → v ≡ Refused why → Thins c pre place excited (R.Refused why)
+module _ {c : Counts} {pre place excited : List ℕ} {v : Result (Unit {0}) D.Refusal} (judged : CoverJudged c pre place excited v) where
+  pub thin_refused : {why : D.Refusal} → v ≡ Err why → Thins c pre place excited (Err why)
   unfolding ThinsTo verdict_refusal
   thin_refused e = record { thins = λ ts ms post told a b d. sym (judged.judges ts ms post told a b d) ∙ ap verdict_refusal e }
 
-  pub thin_kept : {words : ℕ} {sets : List ℕ} {k : Kept} → v ≡ Passed → (verdict_refusal v ≡ none → PlaceSets place c.states words c.machines sets)
-      → ThinsBySets pre sets excited c.machines c.events k → Thins c pre place excited (R.To k)
+  pub thin_kept : {u : Unit {0}} {words : ℕ} {sets : List ℕ} {k : Kept} → v ≡ Ok u → (verdict_refusal v ≡ none → PlaceSets place c.states words c.machines sets)
+      → ThinsBySets pre sets excited c.machines c.events k → Thins c pre place excited (Ok k)
   unfolding ThinsTo verdict_refusal
   thin_kept e filled t =
       record {

@@ -24,9 +24,6 @@ pub record Extending (sets pre : List ℕ) (m events : ℕ) (old new : List ℕ)
   pub before : (k j i : ℕ) → k < suc m → member_at new (j * 16 + k) i ≡ member_at old (j * 16 + k) i
 
 module _ {sets pre : List ℕ} {m events : ℕ} {old : List ℕ} where
-  pub extend_start : Extending sets pre m events old old 0
-  extend_start = record { most = omega arith; size = refl; next = λ j i l. absurd (omega arith); before = λ k j i l. refl }
-
   -- a is the set of event e on machine m, and b what is met
   pub extend_more :
       {row row2 : List ℕ} {e k : ℕ} (a b : StateSet) → m < 15 → Extending sets pre m events old row e → e < events → a ≡ set_at row (e * 16 + m)
@@ -46,9 +43,6 @@ module _ {sets pre : List ℕ} {m events : ℕ} {old : List ℕ} where
       at j i (inr h) =
           stored_here s (j * 16 + suc m) i (omega arith) ∙ w i
           ∙ rw (v, h, sym (x.before m e i (omega arith)))
-
-  pub extend_end : {row : List ℕ} {e : ℕ} → Extending sets pre m events old row e → events ≤ e → Extends sets pre m events old row
-  extend_end x l = record { size = x.size; next = λ j i h. x.next j i (omega arith); before = x.before }
 
 -- ---- machine by machine
 -- the sets of the first m machines, which are at least one, in a row as long as the old one
@@ -85,6 +79,3 @@ module _ {sets pre : List ℕ} {events : ℕ} {old : List ℕ} where
       at : (k e i : ℕ) → e < events → (k < m) ⊎ (k ≡ m) → member_at row2 (e * 16 + k) i ≡ common_to sets pre e k i
       at k e i b (inl h) = g.before k e i (omega arith) ∙ x.made.common k e i h b
       at k e i b (inr h) = rw (h, q) (g.next e i b ∙ rw (x.made.common n e i (omega arith) b))
-
-  pub below_end : {row : List ℕ} {m machines : ℕ} → Extended sets pre events old row m → machines ≤ m → Below sets pre machines events row
-  below_end x l = record { common = λ k e i h b. x.made.common k e i (omega arith) b }

@@ -1,6 +1,7 @@
 -- The set of kept machines as a number, and how the rows tell whether a machine is redundant.
-use Rattle.std.specs.Prelude.{ℕ, suc, ◌+◌, ◌*◌, ◌<◌, ◌≤◌, ◌≡◌, Bool, false, not, cond, ◌&&◌, ◌||◌, List, [], ◌∷◌, ltb, length, get_or}
+use Rattle.std.specs.Prelude.{ℕ, suc, ◌+◌, ◌*◌, ◌<◌, ◌≤◌, ◌≡◌, Bool, false, not, cond, ◌&&◌, ◌||◌, List, [], ◌∷◌, Result, Ok, Err, ltb, length, get_or}
 use Rattle.std.proofs.Math.Option.{none, some}
+use Rattle.model.specs.declared.Refusal as D
 use Rattle.model.specs.Lists.{count, is_some, lowest}
 use Rattle.model.specs.TransitionSystem.{TransitionSystem}
 use Rattle.model.specs.Cases.{tabled}
@@ -9,8 +10,6 @@ use Rattle.state_set.specs.Rows.{member_at}
 use Rattle.closure.specs.Covers.{on_machine, on_some, meets, common_to, CoverTold, SetsTold}
 use Rattle.rows.specs.declared.Counts.{Counts}
 use Rattle.irredundant.specs.declared.Kept.{Kept}
-use Rattle.irredundant.specs.declared.Reduction.{Reduction}
-use Rattle.irredundant.specs.declared.Reduction.TheVariants.{Refused, To}
 
 -- the set of machines that marks give as a number: bit i is machine i
 unfoldable pub set_number : List Bool → ℕ
@@ -23,12 +22,12 @@ pub record Keeps (ts : TransitionSystem) (ms : Decomposition) (r : Kept) : Type 
   pub size : r.size ≡ count (λ b. b) (kept_marks ts ms)
 
 -- what Thin answers of machines: the refusal by 11 or 12, or what it keeps
-unfoldable pub ThinsTo : TransitionSystem → Decomposition → Reduction → Type 0
-ThinsTo ts ms (Refused why) = cover_refusal ts ms ≡ some (tabled why)
-ThinsTo ts ms (To k) = (cover_refusal ts ms ≡ none) × Keeps ts ms k
+unfoldable pub ThinsTo : TransitionSystem → Decomposition → Result Kept D.Refusal → Type 0
+ThinsTo ts ms (Err why) = cover_refusal ts ms ≡ some (tabled why)
+ThinsTo ts ms (Ok k) = (cover_refusal ts ms ≡ none) × Keeps ts ms k
 
 -- r is what Thin answers of any machines that the rows tell
-pub record Thins (c : Counts) (pre place excited : List ℕ) (r : Reduction) : Type 0 where
+pub record Thins (c : Counts) (pre place excited : List ℕ) (r : Result Kept D.Refusal) : Type 0 where
   pub thins : (ts : TransitionSystem) (ms : Decomposition) (post : List ℕ) → CoverTold ts ms pre post place excited → ts.states ≡ c.states
       → ts.events ≡ c.events → length ms ≡ c.machines → ThinsTo ts ms r
 
@@ -42,22 +41,9 @@ unfoldable pub none_below : (ℕ → Bool) → ℕ → Bool
 none_below f n = not (is_some (lowest f n))
 
 -- the rows have sets for so many machines and events
-pub record Sizes (machines events : ℕ) (sets pre below : List ℕ) : Type 0 where
+pub record Sizes (machines events : ℕ) (sets below : List ℕ) : Type 0 where
   pub sets_size : machines * 256 ≤ length sets
-  pub pre_size : length pre ≡ 1024
   pub below_size : events * 64 ≤ length below
-
--- the sizes of the rows of the kept machines
-pub record AboveSizes (above : List ℕ) (onAbove : List Bool) : Type 0 where
-  pub above_size : length above ≡ 256
-  pub on_size : length onAbove ≡ 64
-
--- the sizes of the rows that tell whether a machine is redundant
-pub record BesideSizes (events : ℕ) (pre below above : List ℕ) (onAbove : List Bool) (excited : List ℕ) : Type 0 where
-  pub pre_size : length pre ≡ 1024
-  pub below_size : events * 64 ≤ length below
-  pub kept : AboveSizes above onAbove
-  pub excited_size : length excited ≡ 256
 
 -- the sets of machine m + 1 are made from those of machine m, and those before are as they were
 pub record Extends (sets pre : List ℕ) (m events : ℕ) (old new : List ℕ) : Type 0 where

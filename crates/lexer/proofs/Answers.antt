@@ -1,61 +1,48 @@
 -- From the code's answer back to what the reader found.
 use Prim.Native.Nat.{ℕ}
-use native.Mathlib.Omega.{arith}
-use mathlib.Core.Path.{◌≡◌, refl, ap, ◌∙◌}
-use mathlib.Core.List.{List}
-use lib.ListN.{length}
+use mathlib.Core.Path.{◌≡◌, refl, ap, sym, ◌∙◌}
+use Rattle.std.specs.Prelude.{Option, Some, None}
 use Rattle.model.specs.Bytes.{Name}
-use Rattle.model.specs.Reading.{Parsed, fail, got, Reader, after, lit_bytes}
-use Rattle.lexer.specs.Words.{as_word, as_literal, as_figure, as_name, high, low}
-use Rattle.lexer.specs.declared.Word.{Word}
-use Rattle.lexer.specs.declared.Word.TheVariants.{Missing, Found}
-use Rattle.lexer.specs.declared.NameWord.{NameWord}
-use Rattle.lexer.specs.declared.NameWord.TheVariants as N
+use Rattle.model.specs.Reading.{Parsed, fail, got}
+use Rattle.lexer.specs.Words.{as_word, as_literal, found_figure, as_figure, found_name, as_name, packed_name}
+use Rattle.lexer.specs.declared.FigureAt.{FigureAt}
+use Rattle.lexer.specs.declared.NameAt.{NameAt}
 
 -- nothing was found
-pub word_missing : {A : Type 0} {r : Word} (f : A → ℕ) (o : Parsed A) → r ≡ as_word f o → r ≡ Missing → o ≡ fail
+pub word_missing : {A B : Type 0} {r : Option B} (f : A → ℕ → B) (o : Parsed A) → r ≡ as_word f o → r ≡ None → o ≡ fail
 word_missing f fail p q = refl
-word_missing f (got a n) p q = let z : ◌≡◌ {A = ℕ} 0 1 = cc in absurd (omega arith)
+word_missing f (got a n) p q = cc
 
-pub literal_missing : {r : Word} (o : Parsed (Unit {0})) → r ≡ as_literal o → r ≡ Missing → o ≡ fail
-literal_missing = word_missing (λ _. 0)
+pub literal_missing : {r : Option ℕ} (o : Parsed (Unit {0})) → r ≡ as_literal o → r ≡ None → o ≡ fail
+literal_missing = word_missing (λ _ n. n)
 
-pub figure_missing : {r : Word} (o : Parsed ℕ) → r ≡ as_figure o → r ≡ Missing → o ≡ fail
-figure_missing = word_missing (λ n. n)
+pub figure_missing : {r : Option FigureAt} (o : Parsed ℕ) → r ≡ as_figure o → r ≡ None → o ≡ fail
+figure_missing = word_missing found_figure
 
--- something was found, and ends at n
-pub word_got : {A : Type 0} {r : Word} {v n : ℕ} (f : A → ℕ) (o : Parsed A) → r ≡ as_word f o → r ≡ Found v n → (a : A) × (o ≡ got a n) × (f a ≡ v)
-word_got f fail p q = let z : ◌≡◌ {A = ℕ} 0 1 = cc in absurd (omega arith)
-word_got {n = n} f (got a m) p q = let e : m ≡ n = cc in (a, ap (got a) e, cc)
+pub name_missing : {r : Option NameAt} (o : Parsed Name) → r ≡ as_name o → r ≡ None → o ≡ fail
+name_missing = word_missing found_name
 
-pub literal_got : {r : Word} {v n : ℕ} (o : Parsed (Unit {0})) → r ≡ as_literal o → r ≡ Found v n → o ≡ got tt n
-literal_got o p q = (word_got (λ _. 0) o p q).1
+-- something was found
+pub word_got : {A B : Type 0} {r : Option B} {b : B} (f : A → ℕ → B) (o : Parsed A) → r ≡ as_word f o → r ≡ Some b → (a : A) × (n : ℕ) × (o ≡ got a n) × (f a n ≡ b)
+word_got f fail p q = cc
+word_got f (got a n) p q = (a, n, refl, cc)
 
-pub figure_got : {r : Word} {v n : ℕ} (o : Parsed ℕ) → r ≡ as_figure o → r ≡ Found v n → o ≡ got v n
-figure_got {n = n} o p q = let g = word_got (λ v. v) o p q in g.1 ∙ ap (λ (x : ℕ). got x n) g.2
+pub literal_got : {r : Option ℕ} {n : ℕ} (o : Parsed (Unit {0})) → r ≡ as_literal o → r ≡ Some n → o ≡ got tt n
+literal_got o p q = let (a, n, e, h) = word_got (λ _ n. n) o p q in e ∙ ap (got tt) h
 
--- a name was found: it ends at n, and the answer tells its length and its bytes
-pub record GotName (o : Parsed Name) (l h w n : ℕ) : Type 0 where
+pub figure_got : {r : Option FigureAt} {f : FigureAt} (o : Parsed ℕ) → r ≡ as_figure o → r ≡ Some f → o ≡ got f.value f.next
+figure_got o p q = let (a, n, e, h) = word_got found_figure o p q in e ∙ (λ i. got (h i).value (h i).next)
+
+-- a name was found, and the answer tells it and the position after it
+pub record GotName (o : Parsed Name) (f : NameAt) : Type 0 where
   pub name : Name
-  pub read : o ≡ got name n
-  pub long : l ≡ length name
-  pub high_is : h ≡ high name
-  pub low_is : w ≡ low name
+  pub read : o ≡ got name f.next
+  pub told : f.name ≡ packed_name name
 
-pub name_missing : {r : NameWord} (o : Parsed Name) → r ≡ as_name o → r ≡ N.Missing → o ≡ fail
-name_missing fail p q = refl
-name_missing (got e n) p q = let z : ◌≡◌ {A = ℕ} 0 1 = cc in absurd (omega arith)
+pub name_got : {r : Option NameAt} {f : NameAt} (o : Parsed Name) → r ≡ as_name o → r ≡ Some f → GotName o f
+name_got o p q =
+    let (e, n, g, h) = word_got found_name o p q in
+    record { name = e; read = g ∙ (λ i. got e (h i).next); told = λ i. (sym h i).name }
 
-pub name_got : {r : NameWord} {l h w n : ℕ} (o : Parsed Name) → r ≡ as_name o → r ≡ N.Found l h w n → GotName o l h w n
-name_got fail p q = let z : ◌≡◌ {A = ℕ} 0 1 = cc in absurd (omega arith)
-name_got {n = n} (got e m) p q =
-    let i : m ≡ n = cc in
-    record { name = e; read = ap (got e) i; long = cc; high_is = cc; low_is = cc }
-
--- a reader behind a literal, with the code's answer r to the literal
-module _ {A R : Type 0} (answer : Parsed A → R) (q : Reader A) (w s : List ℕ) (at : ℕ) {r : Word} (p : r ≡ as_literal (lit_bytes w s at)) where
-  pub behind_missing : r ≡ Missing → answer fail ≡ answer (after (lit_bytes w s at) (λ _ next. q s next))
-  behind_missing m = simp (literal_missing (lit_bytes w s at) p m)
-
-  pub behind_found : {v n : ℕ} {x : R} → r ≡ Found v n → x ≡ answer (q s n) → x ≡ answer (after (lit_bytes w s at) (λ _ next. q s next))
-  behind_found m e = simp (literal_got (lit_bytes w s at) p m) e
+-- what the answers of readers one after another say
+pub ruleset answers = (literal_missing, figure_missing, name_missing, literal_got, figure_got, name_got)

@@ -18,7 +18,7 @@ use Rattle.model.proofs.Laws.{order, lowest_none, not_not, not_and}
 use Rattle.model.proofs.ListLaws.{map_append}
 use Rattle.model.proofs.Words.{leading_le}
 use Rattle.lexer.specs.Words.{packed_from, packed, found_name}
-use Rattle.lexer.specs.declared.NameWord.TheVariants as N
+use Rattle.lexer.specs.declared.NameAt.{NameAt}
 use Rattle.lexer.proofs.Runs.{Passes, Fails, run_more, run_stop, run_rest}
 
 -- how many name bytes stand at a position
@@ -51,11 +51,12 @@ pub record Packing (s : List ℕ) (from v i : ℕ) : Type 0 where
   pub along : i + run s i ≡ from + run s from
   pub value : v ≡ packed (map lower (part s from (i - from)))
   pub small : v < 256 ^ (i - from)
+  pub within : from < i → i ≤ length s
 
 pub pack_start : {s : List ℕ} {from : ℕ} → Packing s from 0 from
 pack_start {s} {from} =
     let z : from - from ≡ 0 = omega arith in
-    record { least = omega arith; most = omega arith; along = refl; value = rw z; small = rw z (omega arith) }
+    record { least = omega arith; most = omega arith; along = refl; value = rw z; small = rw z (omega arith); within = λ h. absurd (omega arith) }
 
 module _ {s : List ℕ} {from v i : ℕ} (inv : Packing s from v i) where
   pub pack_more : i - from < 8 → Passes is_name_byte s i → {b c : ℕ} → b ≡ get_or s i 0 → b < 256 → c ≡ bit_or b 32 → Packing s from (v * 256 + c) (i + 1)
@@ -71,6 +72,7 @@ module _ {s : List ℕ} {from v i : ℕ} (inv : Packing s from v i) where
         along = omega (arith, run_more r);
         value = rw (n, take-suc (drop from s) (i - from) 0 f, map_append lower (part s from (i - from)), packed_snoc, g, ← q, ← inv.value);
         small = rw (n, pow-suc) (omega (arith, or_lt 8 b 32 l (omega arith)));
+        within = λ _. omega (arith, r.within);
       }
 
   -- one byte more goes into 64 bits
@@ -82,6 +84,10 @@ module _ {s : List ℕ} {from v i : ℕ} (inv : Packing s from v i) where
 
   pub pack_full : 8 ≤ i - from → i ≡ from + min 8 (run s from)
   pack_full h = omega arith
+
+-- the code's answer
+abbrev pub named : ℕ → ℕ → ℕ → ℕ → NameAt
+named l h w next = record { name = record { «len» = l; high = h; low = w }; next = next }
 
 -- the two runs from `at` on, of at most eight name bytes each: they end at m and e, and h and l are their numbers
 pub record Halves (s : List ℕ) (at m e h l : ℕ) : Type 0 where
@@ -104,7 +110,7 @@ module _ {s : List ℕ} {at m e h l : ℕ} (p : Halves s at m e h l) where
   lowered : length (map lower (part s at (e - at))) ≡ e - at
   lowered = length-map (part s at (e - at)) lower ∙ whole
 
-  short : e - at < 8 → N.Found (e - at) h l e ≡ found_name (part s at (e - at)) e
+  short : e - at < 8 → named (e - at) h l e ≡ found_name (part s at (e - at)) e
   short n =
       let w = map lower (part s at (e - at)) in
       let z : e - e ≡ 0 = omega arith in
@@ -113,7 +119,7 @@ module _ {s : List ℕ} {at m e h l : ℕ} (p : Halves s at m e h l) where
       let b : drop 8 w ≡ [] = drop_of_length-le w {i = 8} (omega (arith, lowered)) in
       simp (whole, a, b, p.high_is, p.low_is, q, z)
 
-  long : 8 ≤ e - at → N.Found (e - at) h l e ≡ found_name (part s at (e - at)) e
+  long : 8 ≤ e - at → named (e - at) h l e ≡ found_name (part s at (e - at)) e
   long n =
       let f : m - at ≡ 8 = omega (arith, both) in
       let q : e - at ≡ 8 + (e - m) = omega (arith, both) in
@@ -128,5 +134,5 @@ module _ {s : List ℕ} {at m e h l : ℕ} (p : Halves s at m e h l) where
       let b : drop 8 (map lower (part s at (e - at))) ≡ v = rw t (drop_at u v 8 j) in
       simp (whole, a, b, p.high_is, p.low_is, f)
 
-  pub halves_name : N.Found (e - at) h l e ≡ found_name (part s at (e - at)) e
+  pub halves_name : named (e - at) h l e ≡ found_name (part s at (e - at)) e
   halves_name = ⊎_elim short long (order (e - at) 8)

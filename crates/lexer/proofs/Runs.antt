@@ -3,15 +3,15 @@ use Prim.Native.Nat.{ℕ, zero, suc, ◌+◌, ◌-◌, ◌<◌, ◌≤◌}
 use native.Mathlib.Numerals.{add-one}
 use native.Mathlib.Omega.{arith}
 use mathlib.Core.Path.{◌≡◌, refl, ap, sym, ◌∙◌}
-use mathlib.Core.Bool.{Bool, true, false, not, cond}
+use mathlib.Core.Bool.{Bool, true, false, cond}
 use mathlib.Core.List.{List, [], ◌∷◌}
 use lib.ListN.{length, get_or, drop, drop_of_length-le}
 use lib.Seq.{drop-cons, drop-drop}
-use borrow.Author.Tests.{eq-eqb, ne_eqb, not-true, not-false}
+use borrow.Author.Tests.{eq-eqb, ne_eqb}
 use Rattle.model.specs.Bytes.{leading, starts}
 use Rattle.model.specs.Reading.{lit_bytes}
 use Rattle.lexer.specs.Words.{as_literal}
-use Rattle.lexer.specs.declared.Word.TheVariants.{Missing, Found}
+use Rattle.std.specs.Prelude.{Some, None}
 
 -- the byte at i is of the kind p
 pub record Passes (p : ℕ → Bool) (s : List ℕ) (i : ℕ) : Type 0 where
@@ -54,11 +54,11 @@ module _ (p : ℕ → Bool) where
 module _ {p : ℕ → Bool} {s : List ℕ} {i : ℕ} where
   -- t is what the code's own test says of b, the byte at i; 0 stands for the end, and is of no kind
   module _ {b : ℕ} {t : Bool} (e : t ≡ p b) (k : b ≡ get_or s i 0) where
-    pub passing : p 0 ≡ false → not t ≡ false → Passes p s i
-    passing z n = let h : p (get_or s i 0) ≡ true = sym (e ∙ ap p k) ∙ not-false t n in record { passes = h; within = inside p s i z h }
+    pub passing : p 0 ≡ false → t ≡ true → Passes p s i
+    passing z n = let h : p (get_or s i 0) ≡ true = sym (e ∙ ap p k) ∙ n in record { passes = h; within = inside p s i z h }
 
-    pub failing : not t ≡ true → Fails p s i
-    failing n = record { fails = sym (e ∙ ap p k) ∙ not-true t n }
+    pub failing : t ≡ false → Fails p s i
+    failing n = record { fails = sym (e ∙ ap p k) ∙ n }
 
   pub run_cons : Passes p s i → drop i s ≡ get_or s i 0 ∷ drop (i + 1) s
   run_cons h = rw (add-one i) (drop-cons s i 0 h.within)
@@ -69,32 +69,35 @@ module _ {p : ℕ → Bool} {s : List ℕ} {i : ℕ} where
   pub run_stop : Fails p s i → leading p (drop i s) ≡ 0
   run_stop h = stops p s i h.fails
 
--- a loop that compares the bytes at `at` with those of w stands at i in w and at j in s: what is left to compare decides
-pub record Matching (s : List ℕ) (at : ℕ) (w : List ℕ) (i j : ℕ) : Type 0 where
-  pub left : starts (drop i w) (drop j s) ≡ starts w (drop at s)
-  pub along : j ≡ at + i
-  pub within : i ≤ length w
+-- a loop that compares the bytes at `at` with those of w stands at i in w: what is left to compare decides
+pub record Matching (s : List ℕ) (at : ℕ) (w : List ℕ) (i : ℕ) : Type 0 where
+  pub left : starts (drop i w) (drop (at + i) s) ≡ starts w (drop at s)
+  pub within : 0 < i → at + i ≤ length s
 
-no_literal : (s : List ℕ) (at : ℕ) (w : List ℕ) → starts w (drop at s) ≡ false → Missing ≡ as_literal (lit_bytes w s at)
+no_literal : (s : List ℕ) (at : ℕ) (w : List ℕ) → starts w (drop at s) ≡ false → None ≡ as_literal (lit_bytes w s at)
 no_literal s at w e = simp e
 
-module _ {s : List ℕ} {at : ℕ} {w : List ℕ} {i j : ℕ} where
-  pub match_more : Matching s at w i j → i < length w → j < length s → get_or s j 0 ≡ get_or w i 0 → Matching s at w (i + 1) (j + 1)
-  match_more inv h k e =
-      record {
-        left = rw (add-one i, add-one j) (sym (rw (drop-cons w i 0 h, drop-cons s j 0 k, eq-eqb _ _ (sym e)) refl) ∙ inv.left);
-        along = omega arith;
-        within = omega arith;
-      }
+module _ {s : List ℕ} {at : ℕ} {w : List ℕ} where
+  pub match_start : Matching s at w 0
+  match_start = let z : at + 0 ≡ at = omega arith in record { left = rw z; within = λ h. absurd (omega arith) }
 
-  pub match_differ : Matching s at w i j → i < length w → j < length s → (get_or s j 0 ≡ get_or w i 0 → ⊥) → Missing ≡ as_literal (lit_bytes w s at)
-  match_differ inv h k e =
-      no_literal s at w (sym inv.left ∙ rw (drop-cons w i 0 h, drop-cons s j 0 k, ne_eqb (get_or w i 0) (get_or s j 0) (λ q. e (sym q))) refl)
+  module _ {i : ℕ} (inv : Matching s at w i) (h : i < length w) where
+    pub match_more : at + i < length s → get_or s (at + i) 0 ≡ get_or w i 0 → Matching s at w (i + 1)
+    match_more k e =
+        let n : at + (i + 1) ≡ suc (at + i) = omega arith in
+        record {
+          left = rw (n, add-one i) (sym (rw (drop-cons w i 0 h, drop-cons s (at + i) 0 k, eq-eqb _ _ (sym e)) refl) ∙ inv.left);
+          within = λ _. omega arith;
+        }
 
-  pub match_short : Matching s at w i j → i < length w → length s ≤ j → Missing ≡ as_literal (lit_bytes w s at)
-  match_short inv h k = no_literal s at w (sym inv.left ∙ rw (drop-cons w i 0 h, drop_of_length-le s k) refl)
+    pub match_differ : at + i < length s → (get_or s (at + i) 0 ≡ get_or w i 0 → ⊥) → None ≡ as_literal (lit_bytes w s at)
+    match_differ k e =
+        no_literal s at w (sym inv.left ∙ rw (drop-cons w i 0 h, drop-cons s (at + i) 0 k, ne_eqb (get_or w i 0) (get_or s (at + i) 0) (λ q. e (sym q))) refl)
 
-  pub match_end : Matching s at w i j → length w ≤ i → Found 0 j ≡ as_literal (lit_bytes w s at)
-  match_end inv h =
-      let e : starts w (drop at s) ≡ true = sym inv.left ∙ rw (drop_of_length-le w h) refl in
-      simp e (ap (λ (k : ℕ). Found 0 k) (omega arith))
+    pub match_short : length s ≤ at + i → None ≡ as_literal (lit_bytes w s at)
+    match_short k = no_literal s at w (sym inv.left ∙ rw (drop-cons w i 0 h, drop_of_length-le s k) refl)
+
+  pub match_end : Matching s at w (length w) → Some (at + length w) ≡ as_literal (lit_bytes w s at)
+  match_end inv =
+      let e : starts w (drop at s) ≡ true = sym inv.left ∙ rw (drop_of_length-le w {i = length w} (omega arith)) refl in
+      simp e

@@ -3,22 +3,23 @@ use Prim.Native.Nat.{ℕ, suc, ◌+◌, ◌-◌, ◌<◌, ◌≤◌}
 use native.Mathlib.Numerals.{add-one}
 use native.Mathlib.Omega.{arith}
 use mathlib.Core.Path.{◌≡◌, refl, ap, sym, ◌∙◌}
-use mathlib.Core.Bool.{true}
 use mathlib.Core.List.{List, [], ◌∷◌, map}
 use lib.ListN.{length, set, length-set}
 use lib.Seq.{sets, set_out}
+use Rattle.std.specs.Prelude.{Some, None}
 use Rattle.model.specs.Bytes.{bytes, Name}
 use Rattle.model.specs.Reading.{Parsed, fail, got, lit_bytes, many}
 use Rattle.model.specs.Form.{Line, events, spaced_name, events_line}
 use Rattle.model.proofs.Words.{lit_sound}
 use Rattle.lexer.specs.Words.{high, low}
+use Rattle.lexer.specs.declared.NameAt.{NameAt}
+use Rattle.lexer.specs.declared.PackedName.{PackedName}
 use Rattle.lexer.proofs.Answers.{GotName}
 use Rattle.lexer.proofs.Loops.{Items, items_none, items_more, items_end}
 use Rattle.lexer.proofs.Moves.{moves_spaced_name, spaced_name_step}
-use Rattle.lines.specs.Lines.{spots, names_from, EventRows, event_rows, FullRows, with_names, no_events, as_events, StoresNames}
+use Rattle.lines.specs.Lines.{spots, names_from, EventRows, event_rows, FullRows, with_names, as_events, StoresNames}
 use Rattle.lines.specs.Marking.{as_names}
-use Rattle.lines.specs.declared.EventsAt.{EventsAt}
-use Rattle.lines.specs.declared.Names.{Names}
+use Rattle.lines.specs.declared.EventsLine.{EventsLine}
 
 -- where the loop stands: how many names it has, its position in the text, and the rows
 pub record Filling : Type 0 where
@@ -54,30 +55,33 @@ names_start {s} {a} z r = record { items = items_none spaced_name filled s a a.p
 
 module _ {s : List ℕ} {a b : Filling} (inv : Naming s a b) where
   -- one name more
-  module _ {l h w next : ℕ} (g : GotName (spaced_name s b.place) l h w next) where
-    step : next ≡ b.place + 1 + length g.name
-    step = spaced_name_step s b.place g.name next g.read
+  module _ {f : NameAt} (g : GotName (spaced_name s b.place) f) where
+    step : f.next ≡ b.place + 1 + length g.name
+    step = spaced_name_step s b.place g.name f.next g.read
+
+    long : f.name.«len» ≡ length g.name
+    long = ap (λ (p : PackedName). p.«len») g.told
 
     -- the next position lies ahead and in the text, behind the name
-    pub name_reach : (b.place < next) × (next ≤ length s) × (l ≤ next)
-    name_reach = let m = moves_spaced_name.on s b.place g.name next g.read in (m.0, m.1, omega (arith, step, g.long))
+    pub name_reach : (b.place < f.next) × (f.next ≤ length s) × (f.name.«len» ≤ f.next)
+    name_reach = let m = moves_spaced_name.on s b.place g.name f.next g.read in (m.0, m.1, omega (arith, step, long))
 
     abbrev stored : Filling
     stored =
-        filling (b.count + 1) next (set b.rows.placed b.count (next - l)) (set b.rows.lengths b.count l) (set b.rows.highs b.count h)
-        (set b.rows.lows b.count w)
+        filling (b.count + 1) f.next (set b.rows.placed b.count (f.next - f.name.«len»)) (set b.rows.lengths b.count f.name.«len»)
+        (set b.rows.highs b.count f.name.high) (set b.rows.lows b.count f.name.low)
 
     more : (es : List Name) (end : ℕ) → filled b (g.name ∷ es, end) ≡ filled stored (es, end)
     unfolding filled spots
     more es end =
         let n : b.count + suc (length es) ≡ b.count + 1 + length es = omega arith in
-        let p : next - l ≡ b.place + 1 = omega (arith, step, g.long) in
-        rw (n, p, g.long, g.high_is, g.low_is, step, add-one b.count)
+        let p : f.next - f.name.«len» ≡ b.place + 1 = omega (arith, step, long) in
+        rw (n, p, g.told, step, add-one b.count)
 
     pub names_more : Naming s a stored
     names_more =
         record {
-          items = items_more moves_spaced_name inv.items g.name next g.read stored more;
+          items = items_more moves_spaced_name inv.items g.name f.next g.read stored more;
           full =
               record {
                 placed_full = simp length-set inv.full.placed_full;
@@ -89,13 +93,13 @@ module _ {s : List ℕ} {a b : Filling} (inv : Naming s a b) where
         }
 
     -- past the rows' end nothing is stored
-    pub names_past : 64 ≤ b.count → Naming s a (record { count = b.count + 1; place = next; rows = b.rows })
+    pub names_past : 64 ≤ b.count → Naming s a (record { count = b.count + 1; place = f.next; rows = b.rows })
     names_past out =
         rw (
-          set_out b.rows.placed b.count (next - l) (omega (arith, inv.full.placed_full)),
-          set_out b.rows.lengths b.count l (omega (arith, inv.full.lengths_full)),
-          set_out b.rows.highs b.count h (omega (arith, inv.full.highs_full)),
-          set_out b.rows.lows b.count w (omega (arith, inv.full.lows_full)),
+          set_out b.rows.placed b.count (f.next - f.name.«len») (omega (arith, inv.full.placed_full)),
+          set_out b.rows.lengths b.count f.name.«len» (omega (arith, inv.full.lengths_full)),
+          set_out b.rows.highs b.count f.name.high (omega (arith, inv.full.highs_full)),
+          set_out b.rows.lows b.count f.name.low (omega (arith, inv.full.lows_full)),
         ) at names_more
 
   -- no name is left: what the code promises of its answer and of its rows
@@ -114,10 +118,10 @@ module _ {s : List ℕ} {a b : Filling} (inv : Naming s a b) where
         (rw (n, p) refl, (rw z at (ap (λ (f : Filling). f.rows) whole)))
 
 -- an events line from its parts: the code stands at a behind "(events", and r is its answer to the names
-module _ (s : List ℕ) (at a : ℕ) {r : Names} (e : lit_bytes (bytes "(events") s at ≡ got tt a) (n : r ≡ as_names (many spaced_name s a)) where
+module _ (s : List ℕ) (at a : ℕ) {r : EventsLine} (e : lit_bytes (bytes "(events") s at ≡ got tt a) (n : r ≡ as_names (many spaced_name s a)) where
   end : (many spaced_name s a).1 ≡ r.next
   unfolding as_names
-  end = sym (ap (λ (f : Names). f.next) n)
+  end = sym (ap (λ (f : EventsLine). f.next) n)
 
   pub events_none : lit_bytes (bytes ")\n") s r.next ≡ fail → events_line s at ≡ fail
   unfolding events_line
@@ -128,9 +132,9 @@ module _ (s : List ℕ) (at a : ℕ) {r : Names} (e : lit_bytes (bytes "(events"
     unfolding events_line
     line = simp (e, end, h)
 
-    pub events_are : record { formed = true; count = r.count; next = next } ≡ as_events (events_line s at)
+    pub events_are : Some (record { count = r.count; next = next }) ≡ as_events (events_line s at)
     unfolding as_events as_names
-    events_are = let c : r.count ≡ length (many spaced_name s a).0 = ap (λ (f : Names). f.count) n in simp (line, c)
+    events_are = let c : r.count ≡ length (many spaced_name s a).0 = ap (λ (f : EventsLine). f.count) n in simp (line, c)
 
     pub events_stored : {before after : EventRows} → after ≡ with_names a before (many spaced_name s a).0 → StoresNames at (events_line s at) before after
     unfolding names_from
@@ -144,6 +148,6 @@ module _ (s : List ℕ) (at a : ℕ) {r : Names} (e : lit_bytes (bytes "(events"
         }
 
 -- where no events line stands nothing is asked of the rows
-pub none_stored : {at : ℕ} {o : Parsed Line} {r : EventsAt} {before after : EventRows} → r ≡ no_events → o ≡ fail → (r ≡ as_events o) × StoresNames at o before after
+pub none_stored : {at : ℕ} {o : Parsed Line} {before after : EventRows} → o ≡ fail → (None ≡ as_events o) × StoresNames at o before after
 unfolding as_events
-none_stored p e = (p ∙ sym (ap as_events e), record { stored = λ es m g. let z : ◌≡◌ {A = ℕ} 0 1 = cc in absurd (omega arith) })
+none_stored e = (sym (ap as_events e), record { stored = λ es m g. cc })

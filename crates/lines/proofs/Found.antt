@@ -1,29 +1,27 @@
 -- From the code's answer back to the line that stands there. A reader of one kind of line finds no other kind.
 use Prim.Native.Nat.{ℕ, ◌≤◌}
-use native.Mathlib.Omega.{arith}
-use mathlib.Core.Path.{◌≡◌, refl, ap, sym, ◌∙◌, subst}
+use mathlib.Core.Path.{◌≡◌, refl, ap, sym, subst}
 use mathlib.Core.Bool.{Bool, true, false, cond, and-eq-true_iff}
 use mathlib.Core.List.{List, ◌∷◌, ◌++◌, Memᴰ}
 use mathlib.Core.Option.{Option, none}
 use lib.Dec.{leb}
 use lib.ListN.{length}
 use borrow.Author.Tests.{le-leb}
+use Rattle.std.specs.Prelude.{Some, None}
+use Rattle.std.specs.Prelude as Std
 use Rattle.model.specs.Machine.{Place}
 use Rattle.model.specs.Bytes.{bytes, Name, IsName}
 use Rattle.model.specs.Reading.{Parsed, fail, got, after, give, instead, either, lit_bytes, figure, name, items}
 use Rattle.model.specs.Form.{Line, states, events, step, machine, start_of, start_given, states_line, spaced_name, events_line, step_line, place, machine_line}
 use Rattle.model.proofs.Words.{name_sound, items_sound}
-use Rattle.lexer.specs.Words.{high, low}
+use Rattle.lexer.specs.Words.{packed_name}
+use Rattle.lexer.specs.declared.FigureAt.{FigureAt}
 use Rattle.lexer.proofs.Moves.{spaced_name_sound}
 use Rattle.rows.specs.Rows.{place_row}
-use Rattle.lines.specs.Lines.{as_given, as_states, names_from, EventRows, with_names, no_events, as_events, StoresNames, as_step, duplicate_mark, all_below, has_row, without_row, no_machine, machine_row, as_machine}
-use Rattle.lines.specs.declared.Given.{Given}
+use Rattle.lines.specs.Lines.{as_given, as_states, names_from, EventRows, with_names, as_events, StoresNames, as_step, duplicate_mark, all_below, has_row, without_row, machine_row, as_machine}
 use Rattle.lines.specs.declared.StatesLine.{StatesLine}
-use Rattle.lines.specs.declared.StatesLine.TheVariants as N
-use Rattle.lines.specs.declared.EventsAt.{EventsAt}
-use Rattle.lines.specs.declared.StepWords.{StepWords}
+use Rattle.lines.specs.declared.EventsLine.{EventsLine}
 use Rattle.lines.specs.declared.StepLine.{StepLine}
-use Rattle.lines.specs.declared.StepLine.TheVariants as S
 use Rattle.lines.specs.declared.MachineLine.{MachineLine}
 
 -- a line of the kind K, or none
@@ -80,98 +78,83 @@ module _ (s : List ℕ) (at : ℕ) where
       only_after (lit_bytes (bytes ")\n") s l) _ λ _ next _.
       read (p ∷ ps) next refl tt
 
--- a test that is false and true
-other : {C : Type 0} {b : Bool} → b ≡ false → b ≡ true → C
-other p q = let z : ◌≡◌ {A = ℕ} 0 1 = cc in absurd (omega arith)
-
 -- the code's answers
-pub record GotStart (o : Parsed (Option ℕ)) (r : Given) : Type 0 where
+pub record GotStart (o : Parsed (Option ℕ)) (r : FigureAt) : Type 0 where
   pub given : Option ℕ
   pub read : o ≡ got given r.next
-  pub start : start_of given ≡ r.start
+  pub start : start_of given ≡ r.value
 
-pub start_got : (at : ℕ) (o : Parsed (Option ℕ)) {r : Given} → r ≡ as_given at o → GotStart (instead o (got none at)) r
+pub start_got : (at : ℕ) (o : Parsed (Option ℕ)) {r : FigureAt} → r ≡ as_given at o → GotStart (instead o (got none at)) r
 unfolding as_given
 start_got at fail p = rw p (record { given = none; read = refl; start = refl })
 start_got at (got o next) p = rw p (record { given = o; read = refl; start = refl })
 
 -- line 1 gives this start, or none and it is 0
-pub record GotStates (o : Parsed Line) (n k next : ℕ) : Type 0 where
+pub record GotStates (o : Parsed Line) (w : StatesLine) : Type 0 where
   pub start : Option ℕ
-  pub read : o ≡ got (states n start) next
-  pub initial : start_of start ≡ k
+  pub read : o ≡ got (states w.count start) w.next
+  pub initial : start_of start ≡ w.start
 
-module _ (s : List ℕ) (at : ℕ) {r : StatesLine} (p : r ≡ as_states (states_line s at)) where
-  pub states_got : {n k next : ℕ} → r ≡ N.Found n k next → GotStates (states_line s at) n k next
+module _ (s : List ℕ) (at : ℕ) {r : Std.Option StatesLine} (p : r ≡ as_states (states_line s at)) where
+  pub states_got : {w : StatesLine} → r ≡ Some w → GotStates (states_line s at) w
   unfolding as_states
-  states_got {n} {k} {next} q =
-      which (states_only_lem s at) (λ e. let f = ap as_states e in let z : ◌≡◌ {A = ℕ} 0 1 = cc in absurd (omega arith)) λ (m, o) l e _.
+  states_got {w} q =
+      which (states_only_lem s at) (λ e. let f = ap as_states e in cc) λ (m, o) l e _.
       let f = ap as_states e in
-      let a : m ≡ n = cc in
-      let b : l ≡ next = cc in
-      let c : start_of o ≡ k = cc in
-      record { start = o; read = cc; initial = c }
+      let z : ◌≡◌ {A = StatesLine} (record { count = m; start = start_of o; next = l }) w = cc in
+      subst (GotStates (states_line s at)) z (record { start = o; read = e; initial = refl })
 
-  pub states_missing : r ≡ N.Missing → states_line s at ≡ fail
+  pub states_missing : r ≡ None → states_line s at ≡ fail
   unfolding as_states
-  states_missing q =
-      which (states_only_lem s at) (λ e. e) λ m k e _.
-      let f = ap as_states e in
-      let z : ◌≡◌ {A = ℕ} 0 1 = cc in
-      absurd (omega arith)
+  states_missing q = which (states_only_lem s at) (λ e. e) (λ m k e _. let f = ap as_states e in cc)
 
 -- the event's name is told by its length and its two numbers
-pub record GotStep (o : Parsed Line) (w : StepWords) : Type 0 where
+pub record GotStep (o : Parsed Line) (w : StepLine) : Type 0 where
   pub name : Name
   pub read : o ≡ got (step w.source name w.target) w.next
   pub is_name_lem : IsName name
-  pub long : w.«len» ≡ length name
-  pub high_is : w.«high» ≡ high name
-  pub low_is : w.«low» ≡ low name
+  pub told : w.name ≡ packed_name name
 
-module _ (s : List ℕ) (at : ℕ) {r : StepLine} (p : r ≡ as_step (step_line s at)) where
-  pub step_got : {w : StepWords} → r ≡ S.Found w → GotStep (step_line s at) w
+module _ (s : List ℕ) (at : ℕ) {r : Std.Option StepLine} (p : r ≡ as_step (step_line s at)) where
+  pub step_got : {w : StepLine} → r ≡ Some w → GotStep (step_line s at) w
   unfolding as_step
   step_got {w} q =
-      which (step_only s at) (λ e. let f = ap as_step e in let z : ◌≡◌ {A = ℕ} 0 1 = cc in absurd (omega arith)) λ (x, e, y) k g i.
+      which (step_only s at) (λ e. let f = ap as_step e in cc) λ (x, e, y) k g i.
       let f = ap as_step g in
-      let z : ◌≡◌ {A = StepWords} (record { source = x; «len» = length e; «high» = high e; «low» = low e; target = y; next = k }) w = cc in
-      subst (GotStep (step_line s at)) z (record { name = e; read = g; is_name_lem = i; long = refl; high_is = refl; low_is = refl })
+      let z : ◌≡◌ {A = StepLine} (record { source = x; name = packed_name e; target = y; next = k }) w = cc in
+      subst (GotStep (step_line s at)) z (record { name = e; read = g; is_name_lem = i; told = refl })
 
-  pub step_missing : r ≡ S.Missing → step_line s at ≡ fail
+  pub step_missing : r ≡ None → step_line s at ≡ fail
   unfolding as_step
-  step_missing q =
-      which (step_only s at) (λ e. e) λ m k e _.
-      let f = ap as_step e in
-      let z : ◌≡◌ {A = ℕ} 0 1 = cc in
-      absurd (omega arith)
+  step_missing q = which (step_only s at) (λ e. e) (λ m k e _. let f = ap as_step e in cc)
 
 -- the line and what it leaves in the rows
-pub record GotEvents (o : Parsed Line) (at : ℕ) (r : EventsAt) (before after : EventRows) : Type 0 where
+pub record GotEvents (o : Parsed Line) (at : ℕ) (w : EventsLine) (before after : EventRows) : Type 0 where
   pub names : List Name
-  pub read : o ≡ got (events names) r.next
-  pub counted : r.count ≡ length names
+  pub read : o ≡ got (events names) w.next
+  pub counted : w.count ≡ length names
   pub each : (e : Name) → Memᴰ e names → IsName e
   pub rows : after ≡ with_names (names_from at) before names
 
-module _ (s : List ℕ) (at : ℕ) {r : EventsAt} (p : r ≡ as_events (events_line s at)) where
-  pub events_got : {before after : EventRows} → StoresNames at (events_line s at) before after → r.formed ≡ true → GotEvents (events_line s at) at r before after
-  unfolding as_events no_events
-  events_got w q =
-      which (events_only s at) (λ e. other (ap (λ (x : EventsAt). x.formed) (p ∙ ap as_events e)) q) λ es k e h.
-      let f : r ≡ as_events (got (events es) k) = p ∙ ap as_events e in
-      let n : k ≡ r.next = sym (ap (λ (x : EventsAt). x.next) f) in
-      record { names = es; read = e ∙ ap (got (events es)) n; counted = ap (λ (x : EventsAt). x.count) f; each = h; rows = w.stored es k e }
-
-  pub events_missing : r.formed ≡ false → events_line s at ≡ fail
+module _ (s : List ℕ) (at : ℕ) {r : Std.Option EventsLine} (p : r ≡ as_events (events_line s at)) where
+  pub events_got : {before after : EventRows} {w : EventsLine} → StoresNames at (events_line s at) before after → r ≡ Some w
+      → GotEvents (events_line s at) at w before after
   unfolding as_events
-  events_missing q = which (events_only s at) (λ e. e) λ es k e _. other q (ap (λ (x : EventsAt). x.formed) (p ∙ ap as_events e))
+  events_got {before} {after} {w} stores q =
+      which (events_only s at) (λ e. let f = ap as_events e in cc) λ es k e h.
+      let f = ap as_events e in
+      let z : ◌≡◌ {A = EventsLine} (record { count = length es; next = k }) w = cc in
+      subst (λ (w : EventsLine). GotEvents (events_line s at) at w before after) z
+      (record { names = es; read = e; counted = refl; each = h; rows = stores.stored es k e })
+
+  pub events_missing : r ≡ None → events_line s at ≡ fail
+  unfolding as_events
+  events_missing q = which (events_only s at) (λ e. e) (λ es k e _. let f = ap as_events e in cc)
 
 -- what a machine line with these places says
 pub record GotMachine (n : ℕ) (o : Parsed Line) (r : MachineLine) : Type 0 where
   pub listed : List Place
   pub read : o ≡ got (machine listed) r.next
-  pub formed_is : r.formed ≡ true
   pub counted : r.places ≡ length listed
   pub all_declared : r.declared ≡ all_below n listed
   -- within its limits
@@ -180,39 +163,37 @@ pub record GotMachine (n : ℕ) (o : Parsed Line) (r : MachineLine) : Type 0 whe
 
 module _ (n : ℕ) (ps : List Place) (k : ℕ) {o : Parsed Line} (e : o ≡ got (machine ps) k) where
   -- within its limits or not
-  by_limits : (b : Bool) → has_row n ps ≡ b → GotMachine n o (cond b (machine_row n ps k) (without_row true (length ps) (all_below n ps) k))
+  by_limits : (b : Bool) → has_row n ps ≡ b → GotMachine n o (cond b (machine_row n ps k) (without_row (length ps) (all_below n ps) k))
   unfolding has_row machine_row without_row
   by_limits true h =
       record {
         listed = ps;
         read = e;
-        formed_is = refl;
         counted = refl;
         all_declared = sym ((and-eq-true_iff (leb (length ps) 64) (all_below n ps)).0 h).1;
         duplicate_is = λ _ _. refl;
         row_is = λ _ _. refl;
       }
   by_limits false h =
-      let out : length ps ≤ 64 → all_below n ps ≡ true → ⊥ = λ l a. let w : has_row n ps ≡ true = rw (le-leb (length ps) 64 l, a) in other h w in
+      let out : length ps ≤ 64 → all_below n ps ≡ true → ⊥ = λ l a. let w : has_row n ps ≡ true = rw (le-leb (length ps) 64 l, a) in cc in
       record {
         listed = ps;
         read = e;
-        formed_is = refl;
         counted = refl;
         all_declared = refl;
         duplicate_is = λ l a. absurd (out l a);
         row_is = λ l a. absurd (out l a);
       }
 
-module _ (n : ℕ) (s : List ℕ) (at : ℕ) {r : MachineLine} (p : r ≡ as_machine n (machine_line s at)) where
-  given : (ps : List Place) (k : ℕ) → machine_line s at ≡ got (machine ps) k → GotMachine n (machine_line s at) r
+module _ (n : ℕ) (s : List ℕ) (at : ℕ) {r : Std.Option MachineLine} (p : r ≡ as_machine n (machine_line s at)) where
+  pub machine_got : {w : MachineLine} → r ≡ Some w → GotMachine n (machine_line s at) w
   unfolding as_machine
-  given ps k e = subst (GotMachine n (machine_line s at)) (sym (p ∙ ap (as_machine n) e)) (by_limits n ps k e (has_row n ps) refl)
+  machine_got {w} q =
+      which (machine_only s at) (λ e. let f = ap (as_machine n) e in cc) λ ps k e _.
+      let f = ap (as_machine n) e in
+      let z : ◌≡◌ {A = MachineLine} (cond (has_row n ps) (machine_row n ps k) (without_row (length ps) (all_below n ps) k)) w = cc in
+      subst (GotMachine n (machine_line s at)) z (by_limits n ps k e (has_row n ps) refl)
 
-  pub machine_got : r.formed ≡ true → GotMachine n (machine_line s at) r
-  unfolding as_machine no_machine without_row
-  machine_got q =
-      which (machine_only s at) (λ e. other (ap (λ (x : MachineLine). x.formed) (p ∙ ap (as_machine n) e)) q) (λ ps k e _. given ps k e)
-
-  pub machine_missing : r.formed ≡ false → machine_line s at ≡ fail
-  machine_missing q = which (machine_only s at) (λ e. e) (λ ps k e _. other q (given ps k e).formed_is)
+  pub machine_missing : r ≡ None → machine_line s at ≡ fail
+  unfolding as_machine
+  machine_missing q = which (machine_only s at) (λ e. e) (λ ps k e _. let f = ap (as_machine n) e in cc)

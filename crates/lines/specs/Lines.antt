@@ -1,34 +1,32 @@
 -- What the code answers to what a line's reader finds.
-use Rattle.std.specs.Prelude.{ℕ, ◌+◌, ◌≡◌, Bool, true, false, cond, ◌&&◌, leb, ltb, eqb, length, replicate}
+use Rattle.std.specs.Prelude.{ℕ, ◌+◌, ◌≡◌, Bool, true, cond, ◌&&◌, leb, ltb, eqb, length, replicate, Option, Some, None}
 use mathlib.Core.List.{List, [], ◌∷◌, map, flatten}
-use Rattle.std.proofs.Math.Option.{Option}
+use Rattle.std.proofs.Math.Option as Math
 use Rattle.std.proofs.lemmas.List.Edits.{sets}
 use Rattle.model.specs.Lists.{every, count, lowest}
 use Rattle.model.specs.Machine.{Place}
 use Rattle.model.specs.Bytes.{Name}
 use Rattle.model.specs.Reading.{Parsed, fail, got}
 use Rattle.model.specs.Form.{Line, states, events, step, machine, start_of}
-use Rattle.lexer.specs.Words.{high, low}
-use Rattle.lines.specs.declared.Given.{Given}
+use Rattle.lexer.specs.Words.{high, low, packed_name}
+use Rattle.lexer.specs.declared.FigureAt.{FigureAt}
 use Rattle.lines.specs.declared.StatesLine.{StatesLine}
-use Rattle.lines.specs.declared.StatesLine.TheVariants as N
-use Rattle.lines.specs.declared.EventsAt.{EventsAt}
+use Rattle.lines.specs.declared.EventsLine.{EventsLine}
 use Rattle.lines.specs.declared.StepLine.{StepLine}
-use Rattle.lines.specs.declared.StepLine.TheVariants as S
 use Rattle.lines.specs.declared.MachineLine.{MachineLine}
 use Rattle.rows.specs.Rows.{place_row, or_no_state}
 
 -- what a states line answers at a position after its count: the start, 0 and the same position where none is given
-unfoldable pub as_given : ℕ → Parsed (Option ℕ) → Given
-as_given at fail = record { start = 0; next = at }
-as_given at (got o next) = record { start = start_of o; next = next }
+unfoldable pub as_given : ℕ → Parsed (Math.Option ℕ) → FigureAt
+as_given at fail = record { value = 0; next = at }
+as_given at (got o next) = record { value = start_of o; next = next }
 
-unfoldable pub as_states : Parsed Line → StatesLine
-as_states fail = N.Missing
-as_states (got (states n o) next) = N.Found n (start_of o) next
-as_states (got (events es) next) = N.Missing
-as_states (got (step a e b) next) = N.Missing
-as_states (got (machine ps) next) = N.Missing
+unfoldable pub as_states : Parsed Line → Option StatesLine
+as_states fail = None
+as_states (got (states n o) next) = Some (record { count = n; start = start_of o; next = next })
+as_states (got (events es) next) = None
+as_states (got (step a e b) next) = None
+as_states (got (machine ps) next) = None
 
 -- the position of each name of a list that begins at a position: each stands after a space
 unfoldable pub spots : ℕ → List Name → List ℕ
@@ -66,26 +64,23 @@ with_names at r es =
       lows = sets r.lows 0 (map low es);
     }
 
-unfoldable pub no_events : EventsAt
-no_events = record { formed = false; count = 0; next = 0 }
-
-unfoldable pub as_events : Parsed Line → EventsAt
-as_events fail = no_events
-as_events (got (states n o) next) = no_events
-as_events (got (events es) next) = record { formed = true; count = length es; next = next }
-as_events (got (step a e b) next) = no_events
-as_events (got (machine ps) next) = no_events
+unfoldable pub as_events : Parsed Line → Option EventsLine
+as_events fail = None
+as_events (got (states n o) next) = None
+as_events (got (events es) next) = Some (record { count = length es; next = next })
+as_events (got (step a e b) next) = None
+as_events (got (machine ps) next) = None
 
 -- what an events line at a position leaves in the rows: its names; without its form it is left open
 pub record StoresNames (at : ℕ) (o : Parsed Line) (before after : EventRows) : Type 0 where
   pub stored : (es : List Name) (next : ℕ) → o ≡ got (events es) next → after ≡ with_names (names_from at) before es
 
-unfoldable pub as_step : Parsed Line → StepLine
-as_step fail = S.Missing
-as_step (got (states n o) next) = S.Missing
-as_step (got (events es) next) = S.Missing
-as_step (got (step a e b) next) = S.Found (record { source = a; «len» = length e; «high» = high e; «low» = low e; target = b; next = next })
-as_step (got (machine ps) next) = S.Missing
+unfoldable pub as_step : Parsed Line → Option StepLine
+as_step fail = None
+as_step (got (states n o) next) = None
+as_step (got (events es) next) = None
+as_step (got (step a e b) next) = Some (record { source = a; name = packed_name e; target = b; next = next })
+as_step (got (machine ps) next) = None
 
 -- the lowest state below n that is listed twice, or 256
 unfoldable pub duplicate_mark : ℕ → List Place → ℕ
@@ -99,22 +94,18 @@ all_below n = every (every (λ x. ltb x n))
 unfoldable pub has_row : ℕ → List Place → Bool
 has_row n ps = leb (length ps) 64 && all_below n ps
 
--- a line whose row is not told: none of its form, one with too many places, or one with a state that is not declared
-unfoldable pub without_row : Bool → ℕ → Bool → ℕ → MachineLine
-without_row formed places declared next =
-    record { formed = formed; places = places; declared = declared; duplicate = 256; row = replicate 256 255; next = next }
-
-unfoldable pub no_machine : MachineLine
-no_machine = without_row false 0 false 0
+-- a line whose row is not told: one with too many places, or one with a state that is not declared
+unfoldable pub without_row : ℕ → Bool → ℕ → MachineLine
+without_row places declared next = record { places = places; declared = declared; duplicate = 256; row = replicate 256 255; next = next }
 
 unfoldable pub machine_row : ℕ → List Place → ℕ → MachineLine
 machine_row n ps next =
-    record { formed = true; places = length ps; declared = true; duplicate = duplicate_mark n ps; row = place_row ps; next = next }
+    record { places = length ps; declared = true; duplicate = duplicate_mark n ps; row = place_row ps; next = next }
 
-unfoldable pub as_machine : ℕ → Parsed Line → MachineLine
-as_machine n fail = no_machine
-as_machine n (got (states k o) next) = no_machine
-as_machine n (got (events es) next) = no_machine
-as_machine n (got (step a e b) next) = no_machine
+unfoldable pub as_machine : ℕ → Parsed Line → Option MachineLine
+as_machine n fail = None
+as_machine n (got (states k o) next) = None
+as_machine n (got (events es) next) = None
+as_machine n (got (step a e b) next) = None
 as_machine n (got (machine ps) next) =
-    cond (has_row n ps) (machine_row n ps next) (without_row true (length ps) (all_below n ps) next)
+    Some (cond (has_row n ps) (machine_row n ps next) (without_row (length ps) (all_below n ps) next))

@@ -1,17 +1,14 @@
 -- How the rows of a line are filled, item by item: what the inner functions promise.
-use Rattle.std.specs.Prelude.{ℕ, suc, ◌≡◌, Bool, true, false, cond, List, [], ◌∷◌, ltb, eqb, length, get_or, set, drop}
+use Rattle.std.specs.Prelude.{ℕ, suc, ◌≡◌, Bool, true, false, cond, List, [], ◌∷◌, ltb, eqb, length, get_or, set, drop, Option, Some, None}
 use Rattle.model.specs.Machine.{Place}
 use Rattle.model.specs.Bytes.{Name, bytes, starts}
 use Rattle.model.specs.Reading.{Parsed, fail, got, Reader, ◌>>=◌, ◌>>◌, give, lit, figure, items}
 use Rattle.model.specs.Form.{spaced_figure}
-use Rattle.lines.specs.declared.Names.{Names}
+use Rattle.lines.specs.declared.EventsLine.{EventsLine}
 use Rattle.lines.specs.declared.marks.Marks.{Marks}
-use Rattle.lines.specs.declared.marks.PlaceAt as A
-use Rattle.lines.specs.declared.marks.PlaceAt.TheVariants as P
-use Rattle.lines.specs.declared.marks.Places as L
-use Rattle.lines.specs.declared.marks.Places.TheVariants as M
+use Rattle.lines.specs.declared.marks.Places.{Places}
 
-unfoldable pub as_names : List Name × ℕ → Names
+unfoldable pub as_names : List Name × ℕ → EventsLine
 as_names r = record { count = length r.0; next = r.1 }
 
 -- a machine's row so far, whether all its states are declared, and the lowest that was listed twice
@@ -20,8 +17,8 @@ pub record Marking : Type 0 where
   pub duplicate : ℕ
   pub row : List ℕ
 
-abbrev pub marking : Marks → List ℕ → Marking
-marking m row = record { declared = m.declared; duplicate = m.duplicate; row = row }
+abbrev pub marking : Marks → Marking
+marking m = record { declared = m.declared; duplicate = m.duplicate; row = m.row }
 
 -- a state of place p: below n it goes into the row; the first place that lists it counts
 unfoldable pub marked : ℕ → ℕ → Marking → ℕ → Marking
@@ -55,22 +52,22 @@ opened = do
   lit ")"
   give (x ∷ xs)
 
-pub record PlaceFound (n p : ℕ) (m : Marking) (o : Parsed Place) (marks : Marks) (next : ℕ) (row : List ℕ) : Type 0 where
+pub record PlaceFound (n p : ℕ) (m : Marking) (o : Parsed Place) (next : ℕ) (after : Marking) : Type 0 where
   pub place : Place
   pub read : o ≡ got place next
-  pub rows : marking marks row ≡ marked_all n p m place
+  pub rows : after ≡ marked_all n p m place
 
--- what reading one place answers and leaves in the row
-unfoldable pub PlaceRead : ℕ → ℕ → Marking → Parsed Place → A.PlaceAt → List ℕ → Type 0
-PlaceRead n p m o P.Missing row = o ≡ fail
-PlaceRead n p m o (P.Found marks next) row = PlaceFound n p m o marks next row
+-- what reading one place answers and leaves marked
+unfoldable pub PlaceRead : ℕ → ℕ → Marking → Parsed Place → Option ℕ → Marking → Type 0
+PlaceRead n p m o None after = o ≡ fail
+PlaceRead n p m o (Some next) after = PlaceFound n p m o next after
 
-pub record PlacesFound (n : ℕ) (m : Marking) (r : List Place × ℕ) (count : ℕ) (marks : Marks) (next : ℕ) (row : List ℕ) : Type 0 where
-  pub counted : count ≡ length r.0
-  pub ends : next ≡ r.1
-  pub rows : marking marks row ≡ marked_places n 0 m r.0
+pub record PlacesFound (n : ℕ) (m : Marking) (r : List Place × ℕ) (all : Places) (after : Marking) : Type 0 where
+  pub counted : all.count ≡ length r.0
+  pub ends : all.next ≡ r.1
+  pub rows : after ≡ marked_places n 0 m r.0
 
--- what reading all places of a line answers and leaves in the row; broken: after those of their form stands a bracket that opens no place
-unfoldable pub PlacesRead : ℕ → Marking → List ℕ → List Place × ℕ → L.Places → List ℕ → Type 0
-PlacesRead n m s r M.Broken row = starts (bytes " (") (drop r.1 s) ≡ true
-PlacesRead n m s r (M.Found count marks next) row = PlacesFound n m r count marks next row
+-- what reading all places of a line answers and leaves marked; none: after those of their form stands a bracket that opens no place
+unfoldable pub PlacesRead : ℕ → Marking → List ℕ → List Place × ℕ → Option Places → Marking → Type 0
+PlacesRead n m s r None after = starts (bytes " (") (drop r.1 s) ≡ true
+PlacesRead n m s r (Some all) after = PlacesFound n m r all after

@@ -4,65 +4,48 @@
 ghost use Rattle.std.specs.Prelude.{◌≡◌, ◌≤◌, ◌&&◌, leb};
 ghost use Rattle.model.specs.Reading.{many};
 ghost use Rattle.model.specs.Form.{start_given, states_line, events_line, step_line, machine_line, spaced_name};
-ghost use Rattle.lines.specs.Lines.{as_given, as_states, event_rows, FullRows, with_names, no_events, as_events, StoresNames, as_step, as_machine, without_row};
+ghost use Rattle.lines.specs.Lines.{as_given, as_states, event_rows, FullRows, with_names, as_events, StoresNames, as_step, as_machine, without_row};
 ghost use Rattle.lines.specs.Marking.{as_names};
 
-use lexer::{NameWord, Word, read_figure, read_literal, read_spaced_figure, read_spaced_name};
-use marks::{Marks, Places, mark_places};
+use lexer::{
+    FigureAt, PackedName, read_figure, read_literal, read_spaced_figure, read_spaced_name,
+};
+use marks::{Marks, mark_places};
 use model::{MAX_EVENTS, MAX_PLACES};
+use names::Names;
 use rows::{NO_STATE, UNPLACED};
 
 mod marks; // the places of a machine line, marked in a row
 
-// A states line: how many states, the start, and the position after the line; or none of its form.
-#[derive(Drop)]
-pub enum StatesLine {
-    Missing,
-    Found {
-        count: usize,
-        start: usize,
-        next: usize,
-    },
-}
-
-// The start that a states line gives, and the position after it.
-#[derive(Drop)]
-struct Given {
-    start: usize,
-    next: usize,
+// A states line: how many states, the start, and the position after the line.
+#[derive(Clone, Copy)]
+pub struct StatesLine {
+    pub count: usize,
+    pub start: usize,
+    pub next: usize,
 }
 
 // An events line: how many names, and the position after it.
-#[derive(Drop)]
-pub struct EventsAt {
-    pub formed: bool,
+#[derive(Clone, Copy)]
+pub struct EventsLine {
     pub count: usize,
     pub next: usize,
 }
 
-// The words of a step line: the states, the event's name by its length and two numbers, and the position after the line.
-#[derive(Drop)]
-pub struct StepWords {
+// The words of a step line: the states, the event's name, and the position after the line.
+#[derive(Clone, Copy)]
+pub struct StepLine {
     pub source: usize,
-    pub len: usize,
-    pub high: u64,
-    pub low: u64,
+    pub name: PackedName,
     pub target: usize,
     pub next: usize,
 }
 
-// A step line, or none of its form.
-#[derive(Drop)]
-pub enum StepLine {
-    Missing,
-    Found(StepWords),
-}
-
 // A machine line: how many places, and whether all its states are declared. With at most 64 places and all states declared also the lowest state that it
-// lists twice, or NO_STATE, and in a row the place of each state, or UNPLACED.
+// lists twice, and in a row the place of each state, or UNPLACED. NO_STATE stands for no such state, since `duplicate` goes into a row of numbers. An Option of
+// the last two is no plainer: too many places are refused before a state that is not declared, so both facts stand beside it.
 #[derive(Drop)]
 pub struct MachineLine {
-    pub formed: bool,
     pub places: usize,
     pub declared: bool,
     pub duplicate: usize,
@@ -71,91 +54,51 @@ pub struct MachineLine {
 }
 
 // The start on a states line, at the position after its count: 0 and the same position if none is given.
-fn read_start(s: &[u8], at: usize) -> Given
+#[tactic(auto, using(lexer::proofs::Answers::answers), unfolding(model::specs::Form::start_given, crate::specs::Lines::as_given))]
+fn read_start(s: &[u8], at: usize) -> FigureAt
     ensures { result ≡ as_given at (start_given s.now at) }
 {
-    let Word::Found { value: _, next: a } = read_literal(s, at, b" start ") else {
-        return Given { start: 0, next: at };
-    };
-    let Word::Found { value, next } = read_figure(s, a) else {
-        return Given { start: 0, next: at };
-    };
-    Given { start: value, next }
+    let given = read_literal(s, at, b" start ").and_then(|a| read_figure(s, a));
+    given.unwrap_or(FigureAt { value: 0, next: at })
 }
 
 // The states line at a position.
-pub fn read_states(s: &[u8], at: usize) -> StatesLine
+#[tactic(auto, using(lexer::proofs::Answers::answers), unfolding(model::specs::Form::states_line, crate::specs::Lines::as_states))]
+pub fn read_states(s: &[u8], at: usize) -> Option<StatesLine>
     ensures { result ≡ as_states (states_line s.now at) }
 {
-    let Word::Found { value: _, next: a } = read_literal(s, at, b"(states ") else {
-        return StatesLine::Missing;
-    };
-    let Word::Found {
-        value: count,
-        next: b,
-    } = read_figure(s, a)
-    else {
-        return StatesLine::Missing;
-    };
-    let given = read_start(s, b);
-    let start = given.start;
-    let Word::Found { value: _, next } = read_literal(s, given.next, b")\n") else {
-        return StatesLine::Missing;
-    };
-    StatesLine::Found { count, start, next }
-}
-
-// How many names, and the position after them.
-#[derive(Drop)]
-struct Names {
-    count: usize,
-    next: usize,
+    let a = read_literal(s, at, b"(states ")?;
+    let count = read_figure(s, a)?;
+    let start = read_start(s, count.next);
+    let next = read_literal(s, start.next, b")\n")?;
+    Some(StatesLine {
+        count: count.value,
+        start: start.value,
+        next,
+    })
 }
 
 // The names from a position on, each after a space, into rows: of each of the first 64 its position in the text, its length, and its bytes as two numbers.
-fn read_names(
-    s: &[u8],
-    at: usize,
-    spot: &mut [usize; MAX_EVENTS],
-    len: &mut [usize; MAX_EVENTS],
-    high: &mut [u64; MAX_EVENTS],
-    low: &mut [u64; MAX_EVENTS],
-) -> Names
-    requires { FullRows (event_rows spot.old «len».old «high».old «low».old) }
+fn read_names(s: &[u8], at: usize, spot: &mut [usize; MAX_EVENTS], names: &mut Names) -> EventsLine
+    requires { FullRows (event_rows spot.old names.old.«len» names.old.high names.old.low) }
     ensures value { result ≡ as_names (many spaced_name s.now at) }
-    ensures low_after { event_rows spot.new «len».new «high».new «low».new ≡ with_names at (event_rows spot.old «len».old «high».old «low».old) (many spaced_name s.now at).0 }
+    ensures low_after { event_rows spot.new names.new.«len» names.new.high names.new.low ≡ with_names at (event_rows spot.old names.old.«len» names.old.high names.old.low) (many spaced_name s.now at).0 }
+    ensures count_kept { names.new.count ≡ names.old.count }
+    ensures hints_kept { names.new.hints ≡ names.old.hints }
 {
-    let mut k = 0;
-    let mut i = at;
-    loop {
-        let NameWord::Found {
-            len: n,
-            high: h,
-            low: l,
-            next,
-        } = read_spaced_name(s, i)
-        else {
-            return Names { count: k, next: i };
-        };
-        if k < MAX_EVENTS {
-            spot[k] = next - n;
-            len[k] = n;
-            high[k] = h;
-            low[k] = l;
+    let mut count = 0;
+    let mut next = at;
+    while let Some(found) = read_spaced_name(s, next) {
+        if count < MAX_EVENTS {
+            spot[count] = found.next - found.name.len;
+            names.len[count] = found.name.len;
+            names.high[count] = found.name.high;
+            names.low[count] = found.name.low;
         }
-        k += 1;
-        i = next;
+        count += 1;
+        next = found.next;
     }
-}
-
-fn no_events() -> EventsAt
-    ensures { result ≡ no_events }
-{
-    EventsAt {
-        formed: false,
-        count: 0,
-        next: 0,
-    }
+    EventsLine { count, next }
 }
 
 // The events line at a position, its names into rows. All names count. If it is not formed, what the rows hold is left open.
@@ -163,71 +106,54 @@ pub fn read_events(
     s: &[u8],
     at: usize,
     spot: &mut [usize; MAX_EVENTS],
-    len: &mut [usize; MAX_EVENTS],
-    high: &mut [u64; MAX_EVENTS],
-    low: &mut [u64; MAX_EVENTS],
-) -> EventsAt
-    requires { FullRows (event_rows spot.old «len».old «high».old «low».old) }
+    names: &mut Names,
+) -> Option<EventsLine>
+    requires { FullRows (event_rows spot.old names.old.«len» names.old.high names.old.low) }
     ensures value { result ≡ as_events (events_line s.now at) }
-    ensures stores_names { StoresNames at (events_line s.now at) (event_rows spot.old «len».old «high».old «low».old) (event_rows spot.new «len».new «high».new «low».new) }
+    ensures stores_names { StoresNames at (events_line s.now at) (event_rows spot.old names.old.«len» names.old.high names.old.low) (event_rows spot.new names.new.«len» names.new.high names.new.low) }
+    ensures count_kept { names.new.count ≡ names.old.count }
+    ensures hints_kept { names.new.hints ≡ names.old.hints }
 {
-    let Word::Found { value: _, next: a } = read_literal(s, at, b"(events") else {
-        return no_events();
-    };
-    let names = read_names(s, a, spot, len, high, low);
-    let count = names.count;
-    let last = names.next;
-    let Word::Found { value: _, next } = read_literal(s, last, b")\n") else {
-        return no_events();
-    };
-    EventsAt {
-        formed: true,
-        count,
-        next,
-    }
-}
-
-// The step line at a position, its event still by name.
-pub fn read_step(s: &[u8], at: usize) -> StepLine
-    ensures { result ≡ as_step (step_line s.now at) }
-{
-    let Word::Found { value: _, next: a } = read_literal(s, at, b"(step ") else {
-        return StepLine::Missing;
-    };
-    let Word::Found { value: x, next: b } = read_figure(s, a) else {
-        return StepLine::Missing;
-    };
-    let NameWord::Found {
-        len,
-        high,
-        low,
-        next: c,
-    } = read_spaced_name(s, b)
-    else {
-        return StepLine::Missing;
-    };
-    let Word::Found { value: y, next: d } = read_spaced_figure(s, c) else {
-        return StepLine::Missing;
-    };
-    let Word::Found { value: _, next } = read_literal(s, d, b")\n") else {
-        return StepLine::Missing;
-    };
-    StepLine::Found(StepWords {
-        source: x,
-        len,
-        high,
-        low,
-        target: y,
+    let a = read_literal(s, at, b"(events")?;
+    let listed = read_names(s, a, spot, names);
+    let next = read_literal(s, listed.next, b")\n")?;
+    Some(EventsLine {
+        count: listed.count,
         next,
     })
 }
 
-// A machine line whose row is not told: none of its form, one with too many places, or one with a state that is not declared.
-fn without_row(formed: bool, places: usize, declared: bool, next: usize) -> MachineLine
-    ensures { result ≡ without_row formed places declared next }
+// The step line at a position, its event still by name.
+#[tactic(auto, using(lexer::proofs::Answers::answers, crate::proofs::Steps::step_words), unfolding(crate::specs::Lines::as_step))]
+pub fn read_step(s: &[u8], at: usize) -> Option<StepLine>
+    ensures { result ≡ as_step (step_line s.now at) }
+{
+    let a = read_literal(s, at, b"(step ")?;
+    let source = read_figure(s, a)?;
+    let event = read_spaced_name(s, source.next)?;
+    let target = read_spaced_figure(s, event.next)?;
+    let next = read_literal(s, target.next, b")\n")?;
+    Some(StepLine {
+        source: source.value,
+        name: event.name,
+        target: target.value,
+        next,
+    })
+}
+
+// The row of a machine line is told.
+fn has_row(places: usize, declared: bool) -> bool
+    ensures { result ≡ (leb places 64 && declared) }
+{
+    places <= MAX_PLACES && declared
+}
+
+// A machine line whose row is not told: one with too many places, or one with a state that is not declared.
+#[tactic(auto, unfolding(crate::specs::Lines::without_row))]
+fn without_row(places: usize, declared: bool, next: usize) -> MachineLine
+    ensures { result ≡ without_row places declared next }
 {
     MachineLine {
-        formed,
         places,
         declared,
         duplicate: NO_STATE,
@@ -236,52 +162,30 @@ fn without_row(formed: bool, places: usize, declared: bool, next: usize) -> Mach
     }
 }
 
-// The row of a machine line is told.
-fn has_row(places: usize, declared: bool) -> bool
-    ensures { result ≡ (leb places 64 && declared) }
-{
-    if places <= MAX_PLACES {
-        return declared;
-    }
-    false
-}
-
 // The machine line at a position, against n states. Each state starts unplaced, before the line is read.
-pub fn read_machine(s: &[u8], at: usize, n: usize) -> MachineLine
+pub fn read_machine(s: &[u8], at: usize, n: usize) -> Option<MachineLine>
     requires { n ≤ 256 }
     ensures { result ≡ as_machine n (machine_line s.now at) }
 {
-    let mut row = [UNPLACED; 256];
-    let Word::Found { value: _, next: a } = read_literal(s, at, b"(machine") else {
-        return without_row(false, 0, false, 0);
-    };
-    let start = Marks {
+    let mut marks = Marks {
         declared: true,
         duplicate: NO_STATE,
+        row: [UNPLACED; 256],
     };
-    let Places::Found {
-        count,
-        marks,
-        next: end,
-    } = mark_places(s, a, &mut row, n, start)
-    else {
-        return without_row(false, 0, false, 0);
-    };
-    if count == 0 {
-        return without_row(false, 0, false, 0);
+    let a = read_literal(s, at, b"(machine")?;
+    let places = mark_places(s, a, n, &mut marks)?;
+    if places.count == 0 {
+        return None;
     }
-    let Word::Found { value: _, next } = read_literal(s, end, b")\n") else {
-        return without_row(false, 0, false, 0);
-    };
-    if !has_row(count, marks.declared) {
-        return without_row(true, count, marks.declared, next);
+    let next = read_literal(s, places.next, b")\n")?;
+    if !has_row(places.count, marks.declared) {
+        return Some(without_row(places.count, marks.declared, next));
     }
-    MachineLine {
-        formed: true,
-        places: count,
+    Some(MachineLine {
+        places: places.count,
         declared: marks.declared,
         duplicate: marks.duplicate,
-        row,
+        row: marks.row,
         next,
-    }
+    })
 }

@@ -7,28 +7,21 @@ ghost use Rattle.rows.specs.Told.{first_transitions};
 ghost use Rattle.listing.specs.Records.{record_at, first_records, filled};
 
 use model::Transition;
+use rows::Tables;
 
 // Room for the numbers of 1,024 transitions, the most that a text has.
 pub const NUMBERS: usize = 3072;
 
 // Three numbers to each transition, in line order.
-pub fn list_transitions<'a>(
-    source: &'a [u8],
-    event: &'a [u8],
-    target: &'a [u8],
-    n: usize,
-    numbers: &mut [u8],
-)
-    requires { (n ≤ length source.now) × (n ≤ length event.now) × (n ≤ length target.now) × (3 * n ≤ length numbers.old) }
-    ensures { map recorded (first_records numbers.new n) ≡ first_transitions source.now event.now target.now n }
+pub fn list_transitions(plan: &Tables, numbers: &mut [u8])
+    requires { (plan.now.counts.transitions ≤ 1024) × (3 * plan.now.counts.transitions ≤ length numbers.old) }
+    ensures { map recorded (first_records numbers.new plan.now.counts.transitions) ≡ first_transitions plan.now.source plan.now.event plan.now.target plan.now.counts.transitions }
 {
-    let mut k = 0;
-    while k < n {
+    for k in 0..plan.counts.transitions {
         let at = 3 * k;
-        numbers[at] = source[k];
-        numbers[at + 1] = event[k];
-        numbers[at + 2] = target[k];
-        k += 1;
+        numbers[at] = plan.source[k];
+        numbers[at + 1] = plan.event[k];
+        numbers[at + 2] = plan.target[k];
     }
 }
 
@@ -50,9 +43,7 @@ pub fn fill(out: &mut [Transition], numbers: &[u8], k: usize)
     requires { (k ≤ length out.old) × (3 * k ≤ length numbers.now) }
     ensures { out.new ≡ filled numbers.now k out.old }
 {
-    let mut i = 0;
-    while i < k {
+    for i in 0..k {
         out[i] = record_at(numbers, i);
-        i += 1;
     }
 }

@@ -4,6 +4,7 @@ use native.Mathlib.Omega.{arith}
 use mathlib.Core.Path.{◌≡◌, refl, ap, sym, ◌∙◌, subst}
 use mathlib.Core.List.{List, []}
 use mathlib.Core.Option.{some, none-ne-some, some-injective}
+use Rattle.std.specs.Prelude.{Result, Ok, Err}
 use Rattle.model.specs.declared.Refusal as D
 use Rattle.model.specs.Cases.{tabled}
 use Rattle.model.specs.Lists.{At}
@@ -20,8 +21,6 @@ use Rattle.model.proofs.Demands.{Left10, left10, demand2}
 use Rattle.model.proofs.Moves.{MoveView, moves, stays, move_view, move_of}
 use Rattle.rows.specs.declared.Counts.{Counts}
 use Rattle.rows.specs.declared.Tables.{Tables}
-use Rattle.rows.specs.declared.Verdict.{Verdict}
-use Rattle.rows.specs.declared.Verdict.TheVariants.{Refused, Passed}
 use Rattle.rows.specs.Tables.{verdict_refusal, tables_in}
 use Rattle.rows.specs.Told.{entry, system_of}
 use Rattle.rows.proofs.Telling.{told_events, told_initial}
@@ -35,15 +34,13 @@ use Rattle.merging.proofs.Telling.{move_on_lem}
 use Rattle.merging.specs.Merges.{MergeRows, SheetTold, SheetRows, HeldPast10, Merges}
 use Rattle.stages.specs.Stages.{Past10}
 use Rattle.stages.proofs.Stages.{past_10}
-use Rattle.answers.specs.declared.Answer.{Answer}
-use Rattle.answers.specs.declared.Answer.TheVariants as A
 use Rattle.answers.specs.Answers.{answered}
 use Rattle.check_service.specs.Handed.{HandsOver}
 use Rattle.merge_service.specs.Handed.{NamesHeld, MergedOver}
 
 -- refused by 1 to 12
 pub merge_refused : (s out : List ℕ) (why : D.Refusal) → as_far_as12 s ≡ refused (tabled why)
-    → (answered (A.Refused why) ≡ (merge s out).answer) × (out ≡ (merge s out).left)
+    → (answered (Err why) ≡ (merge s out).answer) × (out ≡ (merge s out).left)
 unfolding answered merge lend
 merge_refused s out why e = rw e (refl, refl)
 
@@ -70,16 +67,16 @@ sheet_ready b n r = (
 
 module _ (s : List ℕ) (c : Counts) (ats lens excited place sizes pre post out : List ℕ) where
   -- 11 or 12
-  pub cover_refused : {r : Verdict} {why : D.Refusal} {place2 sizes2 pre2 post2 : List ℕ} → Merges c place sizes pre post excited r place2 sizes2 pre2 post2 → r ≡ Refused why
-      → MergedOver s c ats lens excited place sizes pre post out (A.Refused why) out
+  pub cover_refused : {r : Result (Unit {0}) D.Refusal} {why : D.Refusal} {place2 sizes2 pre2 post2 : List ℕ} → Merges c place sizes pre post excited r place2 sizes2 pre2 post2 → r ≡ Err why
+      → MergedOver s c ats lens excited place sizes pre post out (Err why) out
   unfolding as_far_as12 verdict_refusal
   cover_refused {r} {why} m q v h e = merge_refused s out why (rw (h.passes, sym (m.judges s v h), q))
 
   -- the merged split's sheet
-  pub handed_over : {place2 sizes2 pre2 post2 left : List ℕ} {d : Verdict} (r : Answer) → Merges c place sizes pre post excited d place2 sizes2 pre2 post2 → d ≡ Passed
+  pub handed_over : {place2 sizes2 pre2 post2 left : List ℕ} {d : Result (Unit {0}) D.Refusal} {u : Unit {0}} (r : Result ℕ D.Refusal) → Merges c place sizes pre post excited d place2 sizes2 pre2 post2 → d ≡ Ok u
       → HandsOver s c ats lens sizes2 place2 pre2 post2 out r left → MergedOver s c ats lens excited place sizes pre post out r left
   unfolding as_far_as12 verdict_refusal merge merged_input
-  handed_over {place2} {sizes2} {pre2} {post2} {left} {d} r m q w v h names =
+  handed_over {place2} {sizes2} {pre2} {post2} {left} {d} {u} r m q w v h names =
       rw (h.passes, sym (m.judges s v h), q) (subst (λ (x : List ℕ). (answered r ≡ (lend (passed x) out).answer) × (left ≡ (lend (passed x) out).left)) told (w [] [] [] []))
     where
       t : SheetTold v (merged (system v) v.machines) place2 sizes2 pre2 post2
@@ -174,6 +171,6 @@ module _ {s : List ℕ} {p : Tables} {pre post excited : List ℕ} (k : Past10 s
       }
 
   -- what is answered of the text that the rows hold is what Merge answers
-  pub merge_past : (out left_over : List ℕ) (r : Answer) → MergedOver s p.counts p.name_at p.name_len excited p.place p.sizes pre post out r left_over
+  pub merge_past : (out left_over : List ℕ) (r : Result ℕ D.Refusal) → MergedOver s p.counts p.name_at p.name_len excited p.place p.sizes pre post out r left_over
       → (answered r ≡ (merge s out).answer) × (left_over ≡ (merge s out).left)
   merge_past out left_over r w = w k.held.value held_past_10 (told_names s k.held.value p k.held.told)

@@ -8,8 +8,7 @@ use Rattle.model.specs.Text.{Input, system}
 use Rattle.model.specs.Cases.{tabled}
 use Rattle.model.specs.declared.Refusal as D
 use Rattle.rows.specs.declared.Counts.{Counts}
-use Rattle.rows.specs.declared.Verdict.{Verdict}
-use Rattle.rows.specs.declared.Verdict.TheVariants.{Refused, Passed}
+use Rattle.std.specs.Prelude.{Result, Ok, Err}
 use Rattle.rows.specs.Tables.{verdict_refusal}
 use Rattle.closure.specs.Covers.{PlaceSets, CoverJudged}
 use Rattle.closure.proofs.Cover.{no_pass, sets_told}
@@ -20,19 +19,19 @@ use Rattle.merging.specs.Merges.{MergeRows, SheetRows, HeldPast10, MachinesMerge
 pub sheet_rows_lem : {c : Counts} {place sizes pre post : List ℕ} → MergeRows c place sizes pre post → SheetRows c place sizes pre post
 sheet_rows_lem r = record { place_size_lem = r.place_size_lem; sizes_size = r.sizes_size; moves = r.moves; counts = r.counts }
 
-module _ {c : Counts} {place sizes pre post excited : List ℕ} {r : Verdict} (judged : CoverJudged c pre place excited r) where
+module _ {c : Counts} {place sizes pre post excited : List ℕ} {r : Result (Unit {0}) D.Refusal} (judged : CoverJudged c pre place excited r) where
   -- the verdict is that of 11 and 12
   verdict : (s : List ℕ) (v : Input) → HeldPast10 s v c place sizes pre post excited → verdict_refusal r ≡ cover_refusal (system v) v.machines
   verdict s v h =
       judged.judges (system v) v.machines post h.cover (sym h.states) (sym h.events) (sym h.machines)
 
-  pub merge_refused : {why : D.Refusal} → r ≡ Refused why → SheetRows c place sizes pre post → Merges c place sizes pre post excited (Refused why) place sizes pre post
+  pub merge_refused : {why : D.Refusal} → r ≡ Err why → SheetRows c place sizes pre post → Merges c place sizes pre post excited (Err why) place sizes pre post
   unfolding verdict_refusal
   merge_refused {why} e rows = record { rows = rows; judges = λ s v h. sym (ap verdict_refusal e) ∙ verdict s v h; tells = λ s v h n. no_pass (tabled why) n }
 
-  pub merge_passed : {words words2 : ℕ} {sets later earlier place2 sizes2 pre2 post2 : List ℕ} → r ≡ Passed → (verdict_refusal r ≡ none → PlaceSets place c.states words c.machines sets)
+  pub merge_passed : {u : Unit {0}} {words words2 : ℕ} {sets later earlier place2 sizes2 pre2 post2 : List ℕ} → r ≡ Ok u → (verdict_refusal r ≡ none → PlaceSets place c.states words c.machines sets)
       → Later sets pre c.machines c.events words2 later → Filled c.states c.events earlier
-      → MachinesMerged c (seen sets pre post earlier later excited) place sizes place2 sizes2 pre2 post2 → Merges c place sizes pre post excited Passed place2 sizes2 pre2 post2
+      → MachinesMerged c (seen sets pre post earlier later excited) place sizes place2 sizes2 pre2 post2 → Merges c place sizes pre post excited (Ok u) place2 sizes2 pre2 post2
   unfolding verdict_refusal
   merge_passed {words} {sets} e filled l f y =
       record {

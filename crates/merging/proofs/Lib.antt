@@ -20,7 +20,6 @@ pub mod Numbering
 pub mod Renumbering
 pub mod Uniting
 -- machine by machine
-pub mod Machines
 pub mod Telling
 pub mod Others
 pub mod Passing

@@ -1,73 +1,43 @@
--- Places that bar each other, in a row of sets: one pair, the places with one of some states, event by event.
-use Prim.Native.Nat.{ℕ, suc, ◌+◌, ◌*◌, ◌<◌, ◌≤◌}
+-- Places that bar each other, in a row of sets: those with one of some states, one event, event by event.
+use Prim.Native.Nat.{ℕ, ◌+◌, ◌*◌, ◌<◌, ◌≤◌}
 use native.Mathlib.Omega.{arith}
 use mathlib.Core.Path.{◌≡◌, refl, ap, sym, ◌∙◌, subst}
-use mathlib.Core.Logic.{◌⊎◌, inl, inr, ◌↔◌}
-use mathlib.Core.Bool.{Bool, true, false, not, ◌&&◌, ◌||◌}
+use mathlib.Core.Logic.{◌⊎◌, inl, inr}
+use mathlib.Core.Bool.{Bool, true, false, not, ◌&&◌}
 use mathlib.Core.List.{List}
-use lib.Dec.{T, eqb, eqb→eq, ltb→lt, lt→ltb}
+use lib.Dec.{T, ltb→lt, lt→ltb}
 use lib.ListN.{length, replicate, length-replicate}
 use Rattle.model.specs.Lists.{is_some, lowest}
-use Rattle.model.proofs.Laws.{and_l, and_r, and_i, or_l, or_r, or_e, eqb_of, below_suc}
+use Rattle.model.proofs.Laws.{below_suc}
 use Rattle.state_set.specs.declared.StateSet.{StateSet}
-use Rattle.state_set.specs.declared.Found.{Found}
-use Rattle.state_set.specs.declared.Found.TheVariants.{Nothing, State}
+use Rattle.std.specs.Prelude.{Option, Some, None}
+use Rattle.std.specs.Option as S
 use Rattle.state_set.specs.Member.{member, state_found}
-use Rattle.state_set.specs.Rows.{set_at, member_at, Inserted}
+use Rattle.state_set.specs.Rows.{set_at, member_at}
 use Rattle.state_set.proofs.Rows.{empty_row}
 use Rattle.rows.specs.Told.{entry}
 use Rattle.rows.proofs.Searches.{lowest_same}
 use Rattle.closure.specs.Covers.{on_machine}
-use Rattle.merging.specs.Bars.{have_in_common, Pair, Paired, HasOne, MetPaired, open_in, Seen, open_for, EventBars, EventPaired, Barring, SeenSizes}
+use Rattle.merging.specs.Bars.{have_in_common, Pair, Paired, HasOne, MetPaired, open_in, Seen, open_for, EventBars, EventPaired, Barring}
 
 -- ---- two sets
 
-module _ (a b c : StateSet) (o : Found) (v : (i : ℕ) → member c i ≡ (member a i && member b i)) (w : state_found o ≡ lowest (member c) 256) where
+found_some : (o : Option ℕ) → is_some (state_found o) ≡ S.is_some o
+unfolding is_some state_found
+found_some None = refl
+found_some (Some s) = refl
+
+module _ (a b c : StateSet) (o : Option ℕ) (v : (i : ℕ) → member c i ≡ (member a i && member b i)) (w : state_found o ≡ lowest (member c) 256) where
   both : state_found o ≡ lowest (λ i. member a i && member b i) 256
   both = w ∙ lowest_same _ _ 256 (λ i _. v i)
 
-  pub none_common : o ≡ Nothing → false ≡ have_in_common (member a) (member b)
-  unfolding have_in_common is_some state_found
-  none_common q = rw (sym both, q)
-
-  pub some_common : {s : ℕ} → o ≡ State s → true ≡ have_in_common (member a) (member b)
-  unfolding have_in_common is_some state_found
-  some_common q = rw (sym both, q)
+  pub in_common : {r : Bool} → r ≡ S.is_some o → r ≡ have_in_common (member a) (member b)
+  unfolding have_in_common
+  in_common q = q ∙ sym (found_some o) ∙ ap is_some both
 
 pub same_common : (f g h : ℕ → Bool) → ((i : ℕ) → f i ≡ g i) → have_in_common f h ≡ have_in_common g h
 unfolding have_in_common
 same_common f g h v = ap is_some (lowest_same _ _ 256 (λ i _. ap (λ (b : Bool). b && h i) (v i)))
-
--- ---- one pair
-
--- a set has one state more
-more : {k x : ℕ} {old new : List ℕ} → Inserted k x old new → (a c : ℕ) → T (member_at new a c) ↔ (T (member_at old a c) ⊎ ((a ≡ k) × (c ≡ x)))
-more {k} {x} {old} {new} s a c = (λ t. to (or_e (member_at old a c) (eqb a k && eqb c x) (subst T (s.members a c) t)), λ t. subst T (sym (s.members a c)) (from t))
-  where
-    to : T (member_at old a c) ⊎ T (eqb a k && eqb c x) → T (member_at old a c) ⊎ ((a ≡ k) × (c ≡ x))
-    to (inl t) = inl t
-    to (inr t) = inr (eqb→eq a k (and_l (eqb a k) (eqb c x) t), eqb→eq c x (and_r (eqb a k) (eqb c x) t))
-
-    from : T (member_at old a c) ⊎ ((a ≡ k) × (c ≡ x)) → T (member_at old a c || (eqb a k && eqb c x))
-    from (inl t) = or_l (member_at old a c) (eqb a k && eqb c x) t
-    from (inr t) = or_r (member_at old a c) (eqb a k && eqb c x) (and_i (eqb a k) (eqb c x) (eqb_of a k t.0) (eqb_of c x t.1))
-
-pub paired : {p q n m : ℕ} {old mid new : List ℕ} → n ≡ p → m ≡ q → Inserted n q old mid → Inserted m p mid new → Paired p q old new
-paired {p} {q} {n} {m} {old} {mid} {new} e f x y =
-    record { words = y.size ∙ x.size; members = λ a c. (λ t. to a c ((more y a c).0 t), λ t. from a c t) }
-  where
-    to : (a c : ℕ) → T (member_at mid a c) ⊎ ((a ≡ m) × (c ≡ p)) → T (member_at old a c) ⊎ Pair p q a c
-    to a c (inr t) = inr (inr (t.0 ∙ f, t.1))
-    to a c (inl t) = go ((more x a c).0 t)
-      where
-        go : T (member_at old a c) ⊎ ((a ≡ n) × (c ≡ q)) → T (member_at old a c) ⊎ Pair p q a c
-        go (inl u) = inl u
-        go (inr u) = inr (inl (u.0 ∙ e, u.1))
-
-    from : (a c : ℕ) → T (member_at old a c) ⊎ Pair p q a c → T (member_at new a c)
-    from a c (inl t) = (more y a c).1 (inl ((more x a c).1 (inl t)))
-    from a c (inr (inl t)) = (more y a c).1 (inl ((more x a c).1 (inr (t.0 ∙ sym e, t.1))))
-    from a c (inr (inr t)) = (more y a c).1 (inr (t.0 ∙ sym f, t.1))
 
 -- ---- the places that have one of some states
 
@@ -77,13 +47,6 @@ pub record Meeting (sets : List ℕ) (m size : ℕ) (states : ℕ → Bool) (p :
   pub met : MetPaired sets m q states p old new
 
 module _ {sets : List ℕ} {m size : ℕ} {states : ℕ → Bool} {p : ℕ} {old : List ℕ} where
-  pub meet_start : Meeting sets m size states p old old 0
-  meet_start = record { most = omega arith; met = record { words = refl; members = λ a c. (λ t. inl t, λ t. back a c t) } }
-    where
-      back : (a c : ℕ) → T (member_at old a c) ⊎ ((q : ℕ) × HasOne sets m 0 states q × Pair p q a c) → T (member_at old a c)
-      back a c (inl t) = t
-      back a c (inr t) = absurd (omega (arith, t.1.0))
-
   -- b is the set of place q
   pub meet_more : {row row2 row3 : List ℕ} {q n : ℕ} {t : Bool} (b : StateSet) → Meeting sets m size states p old row q → q < size → b ≡ set_at sets (m * 64 + q) → n ≡ q
       → t ≡ have_in_common states (member b) → t ≡ true → Paired p n row row2 → row3 ≡ row2 → Meeting sets m size states p old row3 (q + 1)
@@ -131,9 +94,6 @@ module _ {sets : List ℕ} {m size : ℕ} {states : ℕ → Bool} {p : ℕ} {old
           go (inl h) = (x.met.members a c).1 (inr (z.0, (h, z.1.1), z.2))
           go (inr h) = absurd (subst T (ap (λ (d : ℕ). have_in_common states (member (set_at sets (m * 64 + d)))) h ∙ not_here) z.1.1)
 
-  pub meet_end : {row : List ℕ} {q : ℕ} → Meeting sets m size states p old row q → size ≤ q → MetPaired sets m size states p old row
-  meet_end {row} {q} x l = subst (λ (n : ℕ). MetPaired sets m n states p old row) (let e : q ≡ size = omega (arith, x.most) in e) x.met
-
 -- ---- one event
 
 pub open_is : (earlier later excited : List ℕ) (m e : ℕ) (a b c x y : StateSet) → a ≡ set_at earlier e → b ≡ set_at later (e * 16 + m) → ((i : ℕ) → member c i ≡ (member a i && member b i))
@@ -152,31 +112,30 @@ module _ (x : Seen) (m size e : ℕ) (old : List ℕ) where
       back a c (inr t) = absurd (n (ltb→lt (entry x.pre (e * 16 + m)) 64 t.on))
 
   -- s is the set of its open states
-  module _ (s : StateSet) (o : Found) (v : (i : ℕ) → member s i ≡ open_for x m e i) (w : state_found o ≡ lowest (member s) 256) where
+  module _ (s : StateSet) (o : Option ℕ) (v : (i : ℕ) → member s i ≡ open_for x m e i) (w : state_found o ≡ lowest (member s) 256) where
     open_found : state_found o ≡ lowest (open_for x m e) 256
     open_found = w ∙ lowest_same _ _ 256 (λ i _. v i)
 
     -- it has none
-    pub event_closed : o ≡ Nothing → EventPaired x m size e old old
-    unfolding is_some state_found
+    pub event_closed : S.is_some o ≡ false → EventPaired x m size e old old
     event_closed q = record { words = refl; members = λ a c. (λ t. inl t, λ t. back a c t) }
       where
         shut : is_some (lowest (open_for x m e) 256) ≡ false
-        shut = rw (sym open_found, q)
+        shut = ap is_some (sym open_found) ∙ found_some o ∙ q
 
         back : (a c : ℕ) → T (member_at old a c) ⊎ EventBars x m size e a c → T (member_at old a c)
         back a c (inl t) = t
         back a c (inr t) = absurd (subst T shut t.opens)
 
     -- it bars its pre-place from its post-place, and from each place with an open state
-    pub event_bars : {mid new : List ℕ} {p q u : ℕ} → entry x.pre (e * 16 + m) < 64 → p ≡ entry x.pre (e * 16 + m) → q ≡ entry x.post (e * 16 + m) → o ≡ State u
+    pub event_bars : {mid new : List ℕ} {p q : ℕ} → entry x.pre (e * 16 + m) < 64 → p ≡ entry x.pre (e * 16 + m) → q ≡ entry x.post (e * 16 + m) → S.is_some o ≡ true
         → Paired p q old mid → MetPaired x.sets m size (member s) p mid new → EventPaired x m size e old new
-    unfolding is_some state_found on_machine
-    event_bars {mid} {new} {p} {q} {u} l ep eq f y z =
+    unfolding on_machine
+    event_bars {mid} {new} {p} {q} l ep eq f y z =
         record { words = z.words ∙ y.words; members = λ a c. (λ t. to a c ((z.members a c).0 t), λ t. from a c t) }
       where
         opened : T (is_some (lowest (open_for x m e) 256))
-        opened = rw (sym open_found, f) tt
+        opened = rw (sym open_found, found_some o, f) tt
 
         alike : (d : ℕ) → have_in_common (member s) (member_at x.sets (m * 64 + d)) ≡ have_in_common (open_for x m e) (member_at x.sets (m * 64 + d))
         alike d = same_common (member s) (open_for x m e) (member_at x.sets (m * 64 + d)) v
@@ -213,32 +172,7 @@ module _ {x : Seen} {m size : ℕ} where
   pub bars_start : Barring x m size 0 (replicate 256 0)
   bars_start = record { words = length-replicate {A = ℕ} 256 0; members = λ a c. (λ t. absurd (subst T (empty_row 256 a c) t), λ t. absurd (omega (arith, t.1))) }
 
-  pub bars_more : {row row2 : List ℕ} {e : ℕ} → Barring x m size e row → EventPaired x m size e row row2 → Barring x m size (e + 1) row2
-  bars_more {row} {row2} {e} y z = record { words = z.words ∙ y.words; members = λ a c. (λ t. to a c ((z.members a c).0 t), λ t. from a c t (below_suc t.0 e (omega (arith, t.1)))) }
-    where
-      to : (a c : ℕ) → T (member_at row a c) ⊎ EventBars x m size e a c → (d : ℕ) × (d < e + 1) × EventBars x m size d a c
-      to a c (inr t) = (e, omega arith, t)
-      to a c (inl t) = let w = (y.members a c).0 t in (w.0, omega (arith, w.1), w.2)
-
-      from : (a c : ℕ) (t : (d : ℕ) × (d < e + 1) × EventBars x m size d a c) → (t.0 < e) ⊎ (t.0 ≡ e) → T (member_at row2 a c)
-      from a c t (inl h) = (z.members a c).1 (inl ((y.members a c).1 (t.0, h, t.2)))
-      from a c t (inr h) = (z.members a c).1 (inr (subst (λ (d : ℕ). EventBars x m size d a c) h t.2))
-
 -- the events below e are done
 pub record Passed (x : Seen) (m size events : ℕ) (row : List ℕ) (e : ℕ) : Type 0 where
   pub most : e ≤ events
   pub barring : Barring x m size e row
-
-module _ {x : Seen} {m size events : ℕ} where
-  pub pass_start : {row : List ℕ} → Barring x m size 0 row → Passed x m size events row 0
-  pass_start b = record { most = omega arith; barring = b }
-
-  pub pass_more : {row row2 : List ℕ} {e : ℕ} → Passed x m size events row e → e < events → EventPaired x m size e row row2 → Passed x m size events row2 (e + 1)
-  pass_more y l z = record { most = omega arith; barring = bars_more y.barring z }
-
-  pub pass_end : {row : List ℕ} {e : ℕ} → Passed x m size events row e → events ≤ e → Barring x m size events row
-  pass_end {row} {e} y l = subst (λ (n : ℕ). Barring x m size n row) (let q : e ≡ events = omega (arith, y.most) in q) y.barring
-
--- rows for all events are rows for the first ones
-pub first_events : {machines events : ℕ} {x : Seen} {e : ℕ} → SeenSizes machines events x → e < events → SeenSizes machines (suc e) x
-first_events s l = record { sets_size = s.sets_size; moves = s.moves; earlier_size = s.earlier_size; later_size = omega (arith, s.later_size, l); excited_size = s.excited_size }

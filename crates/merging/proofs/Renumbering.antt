@@ -1,8 +1,8 @@
 -- The moves of a machine by the new numbers, event by event.
-use Prim.Native.Nat.{ℕ, suc, ◌+◌, ◌*◌, ◌<◌, ◌≤◌}
+use Prim.Native.Nat.{ℕ, ◌+◌, ◌*◌, ◌<◌, ◌≤◌}
 use native.Mathlib.Decide.{ℕ_discrete}
 use native.Mathlib.Omega.{arith}
-use mathlib.Core.Path.{◌≡◌, refl, sym, ◌∙◌}
+use mathlib.Core.Path.{◌≡◌, sym, ◌∙◌}
 use mathlib.Core.Logic.{◌⊎◌, inl, inr}
 use mathlib.Core.Bool.{cond}
 use mathlib.Core.List.{List}
@@ -15,7 +15,6 @@ use Rattle.model.specs.Product.{Move}
 use Rattle.model.proofs.Laws.{below_suc}
 use Rattle.rows.specs.Told.{entry}
 use Rattle.regions.specs.Moves.{move_at, MoveRows}
-use Rattle.merging.specs.Bars.{Ends}
 use Rattle.merging.specs.Groups.{renumbered}
 use Rattle.merging.specs.Numbers.{new_pre, Renumbered}
 
@@ -54,17 +53,6 @@ next : (m e : ℕ) → Untouched m e (e * 16 + m)
 next m e j l q = omega arith
 
 module _ {number : List ℕ} {m events : ℕ} {pre post : List ℕ} where
-  pub renumber_start : MoveRows pre post → Ends (suc m) events pre post → Renumbering number m events pre post pre post 0
-  renumber_start r d =
-      record {
-        most = omega arith;
-        rows = r;
-        done = λ j l. absurd (omega arith);
-        rest_pre = λ i u. refl;
-        rest_post = λ i u. refl;
-        ends = λ j l. d.post_place m j (omega arith) l;
-      }
-
   -- the event is not on the machine
   pub renumber_skip :
       {pre2 post2 pre3 post3 : List ℕ} {e x : ℕ} → Renumbering number m events pre post pre2 post2 e → e < events → x ≡ entry pre2 (e * 16 + m) → 64 ≤ x

@@ -20,11 +20,12 @@ use Rattle.model.proofs.Coarser.{coarser_refl}
 use Rattle.model.proofs.Demands.{Left10, left10, demand2}
 use Rattle.state_set.specs.Rows.{member_at}
 use Rattle.rows.specs.declared.Counts.{Counts}
+use Rattle.rows.specs.declared.Tables.{Tables}
 use Rattle.rows.specs.Told.{entry}
 use Rattle.closure.specs.Covers.{InSets}
 use Rattle.merging.specs.Bars.{Seen, seen, Later}
 use Rattle.merging.specs.Numbers.{Filled}
-use Rattle.merging.specs.Merges.{MergeRows, MachineMerged, SheetTold, HeldPast10, MachinesMerged}
+use Rattle.merging.specs.Merges.{MergeRows, MachineMerged, SheetTold, HeldPast10, MachinesMerged, RestSame}
 use Rattle.merging.proofs.Passing.{Standing, Given, standing_next}
 
 -- ---- the rows keep their bounds
@@ -62,6 +63,14 @@ rows_next {c} {x} {m} {place} {sizes} {place2} {sizes2} {pre2} {post2} l few r y
     start k h (inr t) =
         rw (get_or-set_other place (m * 256 + c.initial) (k * 256 + c.initial) (entry y.number (entry place (m * 256 + c.initial))) 0
         (λ e. contra (eqb k m) t (eqb_of k m (omega (arith, e, r.initial))))) (r.starts k h)
+
+-- ---- the tables but for the places and their counts
+
+pub counts_same : (old new : Tables) → RestSame old new → new.counts ≡ old.counts
+counts_same old new r = ap (λ (p : Tables). p.counts) r
+
+pub rest_further : (old mid new : Tables) → RestSame old mid → RestSame mid new → RestSame old new
+rest_further old mid new r s = s ∙ ap (λ (p : Tables). record p { place = new.place; sizes = new.sizes }) r
 
 -- ---- the loop
 

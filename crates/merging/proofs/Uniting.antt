@@ -1,15 +1,14 @@
 -- Rows of sets that loops fill: the first numbers, the merged places as sets, and the common states on one machine more.
 use Prim.Native.Nat.{ℕ, ◌+◌, ◌*◌, ◌<◌, ◌≤◌}
-use native.Mathlib.Decide.{ℕ_discrete}
 use native.Mathlib.Omega.{arith}
-use mathlib.Core.Path.{◌≡◌, refl, sym, ◌∙◌, subst}
+use mathlib.Core.Path.{◌≡◌, sym, ◌∙◌}
 use mathlib.Core.Logic.{◌⊎◌, inl, inr}
 use mathlib.Core.Bool.{not, ◌&&◌, ◌||◌, and-true}
 use mathlib.Core.List.{List}
-use borrow.Author.Tests.{lt-ltb, le-ltb, eq-eqb, ne_eqb}
+use borrow.Author.Tests.{lt-ltb, le-ltb, eq-eqb}
 use lib.Dec.{T, eqb, eqb→eq, ltb}
 use lib.ListN.{length, replicate, length-replicate}
-use Rattle.model.proofs.Laws.{below_suc, order, and_l, and_r, or_l, or_r, or_e}
+use Rattle.model.proofs.Laws.{below_suc, and_l, and_r, or_l, or_r, or_e}
 use Rattle.state_set.specs.declared.StateSet.{StateSet}
 use Rattle.state_set.specs.Member.{member}
 use Rattle.state_set.specs.Rows.{set_at, member_at, Stored, Joined}
@@ -17,7 +16,7 @@ use Rattle.state_set.proofs.Sets.{four, empty_member}
 use Rattle.state_set.proofs.Rows.{stored_here, stored_else, empty_row}
 use Rattle.rows.specs.Told.{entry}
 use Rattle.closure.specs.Covers.{on_machine}
-use Rattle.merging.specs.Numbers.{Filled, United, Narrowed}
+use Rattle.merging.specs.Numbers.{Filled, United}
 
 -- ---- the first numbers
 -- so far those below x
@@ -28,31 +27,10 @@ pub record FirstNumbers (n : ℕ) (set : StateSet) (x : ℕ) : Type 0 where
 pub first_start : {n : ℕ} → FirstNumbers n (four 0 0 0 0) 0
 first_start = record { most = omega arith; members = λ i. empty_member i ∙ sym (le-ltb i 0 (omega arith)) }
 
--- one number more
-below_more : (i x : ℕ) → ltb i (x + 1) ≡ (ltb i x || eqb i x)
-below_more i x = go (ℕ_discrete i x) (order i x)
-  where
-    go : Dec (i ≡ x) → (i < x) ⊎ (x ≤ i) → ltb i (x + 1) ≡ (ltb i x || eqb i x)
-    go (yes e) (inl l) = absurd (omega arith)
-    go (yes e) (inr l) = rw (lt-ltb i (x + 1) (omega arith), le-ltb i x l, eq-eqb i x e)
-    go (no n) (inl l) = rw (lt-ltb i (x + 1) (omega arith), lt-ltb i x l)
-    go (no n) (inr l) = rw (le-ltb i (x + 1) (omega arith), le-ltb i x l, ne_eqb i x n)
-
-pub first_more :
-    {n x y : ℕ} {set next : StateSet} (one : StateSet) → FirstNumbers n set x → x < n → y ≡ x → ((i : ℕ) → member one i ≡ eqb i y)
-    → ((i : ℕ) → member next i ≡ (member set i || member one i)) → FirstNumbers n next (x + 1)
-first_more {x = x} one f l e o j = record { most = omega arith; members = λ i. j i ∙ rw (f.members i, o i, e, below_more i x) }
-
-pub first_end : {n x : ℕ} {set : StateSet} → FirstNumbers n set x → n ≤ x → (i : ℕ) → member set i ≡ ltb i n
-first_end {n} {x} f l i = let q : x ≡ n = omega arith in f.members i ∙ rw q
-
 -- ---- the same set for each event
 pub record FilledSoFar (n events : ℕ) (row : List ℕ) (e : ℕ) : Type 0 where
   pub most : e ≤ events
   pub filled : Filled n e row
-
-pub fill_start : {n events : ℕ} {row : List ℕ} → length row ≡ 256 → FilledSoFar n events row 0
-fill_start q = record { most = omega arith; filled = record { size = q; all = λ e i l. absurd (omega arith) } }
 
 pub fill_more :
     {n events e : ℕ} {row row2 : List ℕ} (a : StateSet) → FilledSoFar n events row e → e < events → ((i : ℕ) → member a i ≡ ltb i n) → Stored e a row row2
@@ -63,9 +41,6 @@ fill_more {n} {e = e} {row} {row2} a f l m s =
     at : (j i : ℕ) → (j < e) ⊎ (j ≡ e) → member_at row2 j i ≡ ltb i n
     at j i (inl h) = stored_else s j i (λ p. omega arith) ∙ f.filled.all j i h
     at j i (inr h) = stored_here s j i h ∙ m i
-
-pub fill_end : {n events e : ℕ} {row : List ℕ} → FilledSoFar n events row e → events ≤ e → Filled n events row
-fill_end f l = record { size = f.filled.size; all = λ j i h. f.filled.all j i (omega arith) }
 
 -- ---- the merged places as sets
 pub record Uniting (sets : List ℕ) (m size : ℕ) (number unions : List ℕ) (q : ℕ) : Type 0 where
@@ -82,9 +57,6 @@ no_unions n e sets m number =
     record { words = length-replicate {A = ℕ} n 0 ∙ e; members = λ c i. (λ t. absurd (rw (empty_row n c i) at t), λ h. absurd (omega (arith, h.1))) }
 
 module _ {sets : List ℕ} {m size : ℕ} {number : List ℕ} where
-  pub unite_start : {unions : List ℕ} → United sets m 0 number unions → Uniting sets m size number unions 0
-  unite_start u = record { most = omega arith; united = u }
-
   pub unite_more :
       {unions unions2 : List ℕ} {q k : ℕ} (a : StateSet) → Uniting sets m size number unions q → q < size → k ≡ entry number q → a ≡ set_at sets (m * 64 + q)
       → Joined k a unions unions2 → Uniting sets m size number unions2 (q + 1)
@@ -110,9 +82,6 @@ module _ {sets : List ℕ} {m size : ℕ} {number : List ℕ} where
               let e : c ≡ k = sym h.2 ∙ rw (v, b) in
               or_r (member_at unions c i) (eqb c k && member a i) (rw (eq-eqb c k e, w, sym b) h.3)
 
-  pub unite_end : {unions : List ℕ} {q : ℕ} → Uniting sets m size number unions q → size ≤ q → United sets m size number unions
-  unite_end {unions} {q} u l = let e : q ≡ size = omega arith in subst (λ (k : ℕ). United sets m k number unions) e u.united
-
 -- ---- the common states, event by event
 -- done for the first e events, and the sets of the others are as they were
 pub record Narrowing (unions pre : List ℕ) (m events : ℕ) (old new : List ℕ) (e : ℕ) : Type 0 where
@@ -122,9 +91,6 @@ pub record Narrowing (unions pre : List ℕ) (m events : ℕ) (old new : List �
   pub rest : (j i : ℕ) → e ≤ j → member_at new j i ≡ member_at old j i
 
 module _ {unions pre : List ℕ} {m events : ℕ} {old : List ℕ} where
-  pub narrow_start : length old ≡ 256 → Narrowing unions pre m events old old 0
-  narrow_start q = record { most = omega arith; size = q; done = λ j i l. absurd (omega arith); rest = λ j i l. refl }
-
   -- the event is not on the machine
   pub narrow_skip :
       {row next : List ℕ} {e q : ℕ} → Narrowing unions pre m events old row e → e < events → q ≡ entry pre (e * 16 + m) → 64 ≤ q → next ≡ row
@@ -160,6 +126,3 @@ module _ {unions pre : List ℕ} {m events : ℕ} {old : List ℕ} where
       at j i (inr c) =
           stored_here s j i c ∙ y i
           ∙ rw (c, lt-ltb (entry pre (e * 16 + m)) 64 (omega arith), p, r, v, sym (x.rest e i (omega arith)))
-
-  pub narrow_end : {row : List ℕ} {e : ℕ} → Narrowing unions pre m events old row e → events ≤ e → Narrowed unions pre m events old row
-  narrow_end x l = record { size = x.size; members = λ j i h. x.done j i (omega arith) }

@@ -3,8 +3,10 @@ use Rattle.std.specs.Prelude.{ℕ, suc, ◌+◌, ◌*◌, ◌<◌, ◌≤◌, �
 use Rattle.model.specs.Lists.{is_some, lowest}
 use Rattle.state_set.specs.Rows.{member_at}
 use Rattle.rows.specs.Told.{entry}
-use Rattle.regions.specs.Moves.{MoveRows}
 use Rattle.closure.specs.Covers.{on_machine, meets}
+use Rattle.rows.specs.declared.Moves.{Moves}
+use Rattle.merging.specs.declared.Lent.{Lent}
+use Rattle.merging.specs.declared.bar_rows.BarRows.{BarRows}
 
 -- ---- the states common to pre-places on later machines
 
@@ -64,12 +66,17 @@ pub record Seen : Type 0 where
 abbrev pub seen : List ℕ → List ℕ → List ℕ → List ℕ → List ℕ → List ℕ → Seen
 seen sets pre post earlier later excited = record { sets = sets; pre = pre; post = post; earlier = earlier; later = later; excited = excited }
 
+-- the same as the code has them
+abbrev pub seen_by : BarRows → Seen
+seen_by x = seen x.sets.now x.moves.now.pre x.moves.now.post x.earlier.now x.later.now x.excited.now
+
+-- those of one machine: the rows that the pass leaves as they are, the moves, and the states common on the machines before
+abbrev pub seen_in : Lent → Moves → List ℕ → Seen
+seen_in x moves earlier = seen x.sets.now moves.pre moves.post earlier x.later.now x.excited.now
+
 pub record SeenSizes (machines events : ℕ) (x : Seen) : Type 0 where
   pub sets_size : machines * 256 ≤ length x.sets
-  pub moves : MoveRows x.pre x.post
-  pub earlier_size : length x.earlier ≡ 256
   pub later_size : events * 64 ≤ length x.later
-  pub excited_size : length x.excited ≡ 256
 
 -- a move of the first machines and events that has a pre-place has a post-place
 pub record Ends (machines events : ℕ) (pre post : List ℕ) : Type 0 where

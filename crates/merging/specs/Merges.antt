@@ -1,14 +1,15 @@
 -- The rows of the merged machines.
-use Rattle.std.specs.Prelude.{ℕ, ◌+◌, ◌*◌, ◌<◌, ◌≤◌, ◌≡◌, List, length, set}
+use Rattle.std.specs.Prelude.{ℕ, ◌+◌, ◌*◌, ◌<◌, ◌≤◌, ◌≡◌, List, Result, length, set}
 use Rattle.std.proofs.Math.Option.{none}
 use Rattle.model.specs.Lists.{At}
+use Rattle.model.specs.declared.Refusal as D
 use Rattle.model.specs.Refusal.{passed}
 use Rattle.model.specs.Machine.{Machine, Decomposition, place_of, cover_refusal}
 use Rattle.model.specs.Merging.{merged}
 use Rattle.model.specs.Text.{Input, system}
 use Rattle.model.specs.Services.{as_far_as10}
 use Rattle.rows.specs.declared.Counts.{Counts}
-use Rattle.rows.specs.declared.Verdict.{Verdict}
+use Rattle.rows.specs.declared.Tables.{Tables}
 use Rattle.rows.specs.Tables.{verdict_refusal}
 use Rattle.rows.specs.Told.{entry}
 use Rattle.regions.specs.Moves.{MoveRows, MovesTold}
@@ -65,6 +66,10 @@ pub record HeldPast10 (s : List ℕ) (v : Input) (c : Counts) (place sizes pre p
   pub counts : (k : ℕ) (m : Machine) → At v.machines k m → entry sizes k ≡ length m.places
   pub cover : CoverTold (system v) v.machines pre post place excited
 
+-- all but the places and their counts is as it was
+abbrev pub RestSame : Tables → Tables → Type 0
+RestSame old new = new ≡ record old { place = new.place; sizes = new.sizes }
+
 -- what is left of the rows that a sheet looks at: their sizes, and that the counts of places are in their bound
 pub record SheetRows (c : Counts) (place sizes pre post : List ℕ) : Type 0 where
   pub place_size_lem : length place ≡ 4096
@@ -80,7 +85,7 @@ pub record MachinesMerged (c : Counts) (x : Seen) (place sizes place2 sizes2 pre
       → SheetTold v (merged (system v) v.machines) place2 sizes2 pre2 post2
 
 -- the verdict is that of 11 and 12, and if these pass, the rows of a sheet tell the merged machines
-pub record Merges (c : Counts) (place sizes pre post excited : List ℕ) (r : Verdict) (place2 sizes2 pre2 post2 : List ℕ) : Type 0 where
+pub record Merges (c : Counts) (place sizes pre post excited : List ℕ) (r : Result (Unit {0}) D.Refusal) (place2 sizes2 pre2 post2 : List ℕ) : Type 0 where
   pub rows : SheetRows c place2 sizes2 pre2 post2
   pub judges : (s : List ℕ) (v : Input) → HeldPast10 s v c place sizes pre post excited → verdict_refusal r ≡ cover_refusal (system v) v.machines
   pub tells : (s : List ℕ) (v : Input) → HeldPast10 s v c place sizes pre post excited → verdict_refusal r ≡ none

@@ -1,117 +1,67 @@
 // The service Name: where an event's name stands in the text, and the name as the caller's own bytes.
 #![tactic(auto)]
 
-ghost use Rattle.std.specs.Prelude.{◌≡◌, ◌≤◌, length};
+ghost use Rattle.std.specs.Prelude.{◌≡◌};
 ghost use Rattle.model.specs.Services as Services;
 ghost use Rattle.rows.specs.Tables.{verdict_refusal};
-ghost use Rattle.rows.specs.Bounded.{NamesInside};
 ghost use Rattle.stages.specs.Stages.{ReadAsFarAs7};
-ghost use Rattle.name_service.specs.Parts.{NoPart, PartIn, Named, PartOf};
+ghost use Rattle.name_service.specs.Parts.{Named, PartOf};
 
-use model::{MAX_EVENTS, MAX_MACHINES, MAX_TRANSITIONS, Refusal};
-use rows::{NO_STATE, UNPLACED, Verdict};
-use stages::{CheckedPlan, read_as_far_as_7};
+use model::Refusal;
+use rows::Tables;
+use stages::read_as_far_as_7;
 
-// Where a name stands in the text, or the refusal and the empty part at the text's beginning.
-#[derive(Drop)]
+// Where a name stands in the text.
+#[derive(Clone, Copy)]
 pub struct NamePart {
-    pub verdict: Verdict,
     pub from: usize,
     pub end: usize,
 }
 
-fn no_part(why: Refusal) -> NamePart
-    ensures { NoPart why result }
-{
-    NamePart {
-        verdict: Verdict::Refused(why),
-        from: 0,
-        end: 0,
-    }
-}
-
-// The name of an event by the rows of a text, if it is declared.
-fn part_in_rows<'a>(
+// The name of an event of a text that is read as far as 7 into the tables. The text itself is for the contract to name.
+pub fn name_in_plan(
+    read: Result<(), Refusal>,
+    plan: &Tables,
     text: &[u8],
-    name_at: &'a [usize],
-    name_len: &'a [usize],
-    events: usize,
     event: usize,
-) -> NamePart
-    requires { (events ≤ 64) × (length name_at.now ≡ 64) × (length name_len.now ≡ 64) × NamesInside text.now name_at.now name_len.now events }
-    ensures { PartIn name_at.now name_len.now events event result }
-{
-    if event < events {
-        let from = name_at[event];
-        let end = from + name_len[event];
-        return NamePart {
-            verdict: Verdict::Passed,
-            from,
-            end,
-        };
-    }
-    no_part(Refusal::UnknownEvent { position: 0 }) // 14 odd call
-}
-
-// The name of an event of a text that is checked as far as 7.
-pub fn name_in_plan(plan: CheckedPlan, text: &[u8], event: usize) -> NamePart
-    requires { ReadAsFarAs7 text.now plan.verdict plan.tables }
+) -> Result<NamePart, Refusal>
+    requires { ReadAsFarAs7 text.now read plan.now }
     ensures { Named text.now event result }
 {
-    let verdict = plan.verdict;
-    if let Verdict::Refused(reason) = verdict {
-        return no_part(reason);
+    read?;
+    if plan.counts.events <= event {
+        return Err(Refusal::UnknownEvent { position: 0 }); // 14 odd call
     }
-    let tables = plan.tables;
-    let events = tables.counts.events;
-    part_in_rows(text, &tables.name_at, &tables.name_len, events, event)
+    let from = plan.name_at[event];
+    let end = from + plan.name_len[event];
+    Ok(NamePart { from, end })
 }
 
 // The name of an event, after the checks as far as 7.
-pub fn name_part(text: &[u8], event: usize) -> NamePart
+pub fn name_part(text: &[u8], event: usize) -> Result<NamePart, Refusal>
     ensures { Named text.now event result }
 {
-    let mut name_at = [0usize; MAX_EVENTS];
-    let mut name_len = [0usize; MAX_EVENTS];
-    let mut source = [0u8; MAX_TRANSITIONS];
-    let mut label = [0u8; MAX_TRANSITIONS];
-    let mut target = [0u8; MAX_TRANSITIONS];
-    let mut sizes = [0usize; MAX_MACHINES];
-    let mut duplicate = [NO_STATE; MAX_MACHINES];
-    let mut place = [UNPLACED; 4096];
-    let read = read_as_far_as_7(
-        text,
-        &mut name_at,
-        &mut name_len,
-        &mut source,
-        &mut label,
-        &mut target,
-        &mut sizes,
-        &mut duplicate,
-        &mut place,
-    );
-    let verdict = read.verdict;
-    if let Verdict::Refused(why) = verdict {
-        return no_part(why);
-    }
-    let events = read.counts.events;
-    part_in_rows(text, &name_at, &name_len, events, event)
+    let mut plan = Tables::fresh();
+    let read = read_as_far_as_7(text, &mut plan);
+    name_in_plan(read, &plan, text, event)
 }
 
 // Name: the event's name as the caller's own bytes, or the empty part at the text's beginning; `name_refusal` then says why.
+#[tactic(auto, unfolding(crate::specs::Parts::part_in))]
 pub fn name(text: &[u8], event: usize) -> &[u8]
     ensures { PartOf text.entry (Services.handed_back (Services.name text.now event)) result }
 {
-    let part = name_part(text, event);
-    let from = part.from;
-    let end = part.end;
-    &text[from..end]
+    match name_part(text, event) {
+        Ok(NamePart { from, end }) => &text[from..end],
+        Err(_) => &text[..0],
+    }
 }
 
-// The refusal of Name; Passed where nothing is refused.
-pub fn name_refusal(text: &[u8], event: usize) -> Verdict
+// The refusal of Name, if it is refused.
+#[tactic(auto, unfolding(crate::specs::Parts::part_refusal, rows::specs::Tables::verdict_refusal))]
+pub fn name_refusal(text: &[u8], event: usize) -> Result<(), Refusal>
     ensures { verdict_refusal result ≡ Services.name_refusal text.now event }
 {
-    let part = name_part(text, event);
-    part.verdict
+    name_part(text, event)?;
+    Ok(())
 }

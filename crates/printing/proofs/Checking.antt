@@ -22,8 +22,7 @@ use Rattle.model.specs.Printed.{printed_by, fitting, printed_check, printed_merg
 use Rattle.model.proofs.Demands.{demand1, demand2}
 use Rattle.model.proofs.Merges.{merges_hold}
 use Rattle.model.proofs.Quotes.{quoting_holds}
-use Rattle.answers.specs.declared.Answer.{Answer}
-use Rattle.answers.specs.declared.Answer.TheVariants.{Refused, Accepted}
+use Rattle.std.specs.Prelude.{Result, Ok, Err}
 use Rattle.answers.specs.Answers.{answered}
 use Rattle.answers.proofs.Lending.{lent_all}
 use Rattle.printing.specs.Shown.{Shows, FitsBuffer, lent_line}
@@ -31,13 +30,13 @@ use Rattle.printing.proofs.Showing.{printed_all}
 
 -- ---- the answer by its cases
 
-module _ (lent : ℕ) (a : Answer) (left : List ℕ) where
-  pub shows_refused : {why : D.Refusal} → a ≡ Refused why → {n : ℕ} {after : List ℕ} → Shows (written_refusal (tabled why)) n after
+module _ (lent : ℕ) (a : Result ℕ D.Refusal) (left : List ℕ) where
+  pub shows_refused : {why : D.Refusal} → a ≡ Err why → {n : ℕ} {after : List ℕ} → Shows (written_refusal (tabled why)) n after
       → Shows (lent_line lent (answered a) left) n after
   unfolding answered lent_line
   shows_refused e w = rw e w
 
-  module _ {size : ℕ} (e : a ≡ Accepted size) where
+  module _ {size : ℕ} (e : a ≡ Ok size) where
     pub shows_short : lent < size → {n : ℕ} {after : List ℕ} → Shows (written_refusal (tabled (BufferTooShort size))) n after
         → Shows (lent_line lent (answered a) left) n after
     unfolding answered lent_line tabled

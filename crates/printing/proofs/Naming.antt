@@ -1,7 +1,7 @@
 -- What is printed for Name, by its ways out. A name has 16 bytes at most.
-use Prim.Native.Nat.{ℕ, ◌-◌, ◌<◌, ◌≤◌}
+use Prim.Native.Nat.{ℕ, ◌+◌, ◌-◌, ◌<◌, ◌≤◌}
 use native.Mathlib.Omega.{arith}
-use mathlib.Core.Path.{◌≡◌, sym, ◌∙◌}
+use mathlib.Core.Path.{◌≡◌, sym}
 use mathlib.Core.Logic.{◌⊎◌, inl, inr}
 use mathlib.Core.List.{List, [], ◌++◌}
 use borrow.Author.Tests.{lt-ltb, le-ltb}
@@ -17,11 +17,11 @@ use Rattle.model.proofs.Order.{Verdict, turned_down, let_through}
 use Rattle.model.proofs.Positions.{get_d_mem}
 use Rattle.model.proofs.Texts.{limits_of}
 use Rattle.model.proofs.Verdicts.{verdict7}
-use Rattle.rows.specs.declared.Verdict.TheVariants.{Refused, Passed}
+use Rattle.std.specs.Prelude.{Ok, Err}
 use Rattle.writers.specs.Written.{Writes}
-use Rattle.rows.proofs.Verdicts.{was_passed, refused_as, lets_pass}
+use Rattle.rows.proofs.Verdicts.{was_passed, was_refused}
 use Rattle.name_service.specs.declared.NamePart.{NamePart}
-use Rattle.name_service.specs.Parts.{Named}
+use Rattle.name_service.specs.Parts.{Named, part_in, part_refusal}
 use Rattle.printing.specs.Shown.{Shows}
 use Rattle.printing.proofs.Showing.{shows_written, shows_same}
 
@@ -38,16 +38,29 @@ handed_most s e = go (verdict7 s)
         known (inl l) = rw (q, lt-ltb e (length v.names) l) ((limits_of s v p.reads).names _ (get_d_mem v.names e [] l)).most
         known (inr l) = rw (q, le-ltb e (length v.names) l) (omega arith)
 
-module _ {s : List ℕ} {e : ℕ} {r : NamePart} (h : Named s e r) where
-  -- the part is short
-  pub part_most : r.end - r.from ≤ 16
-  part_most = omega (arith, h.begins, h.ends, handed_most s e)
+-- Name is refused
+pub name_refused : {s : List ℕ} {e : ℕ} {why : D.Refusal} → Named s e (Err why) → {n : ℕ} {left : List ℕ} → Shows (written_refusal (tabled why)) n left
+    → Shows (printed_name s e) n left
+unfolding printed_name printed_by name_refusal part_refusal
+name_refused {s} {e} {why} h w = let z : name s e ≡ refused (tabled why) = was_refused (name s e) (tabled why) (sym h.verdict) in rw z w
 
-  -- Name is refused
-  pub name_refused : {why : D.Refusal} {n : ℕ} {left : List ℕ} → r.verdict ≡ Refused why → Shows (written_refusal (tabled why)) n left
-      → Shows (printed_name s e) n left
-  unfolding printed_name printed_by name_refusal
-  name_refused {why = why} q w = let z : name s e ≡ refused (tabled why) = refused_as h.verdict q in rw z w
+module _ {s : List ℕ} {e : ℕ} {r : NamePart} (h : Named s e (Ok r)) where
+  begins : r.from ≡ (handed_back (name s e)).from
+  unfolding part_in
+  begins = h.begins
+
+  ends : r.end ≡ (handed_back (name s e)).from + (handed_back (name s e)).size
+  unfolding part_in
+  ends = h.ends
+
+  -- the part lies in the text
+  pub part_inside : (r.from ≤ r.end) × (r.end ≤ length s)
+  unfolding part_in
+  part_inside = (omega (arith, begins, ends), h.inside)
+
+  -- and is short
+  pub part_most : r.end - r.from ≤ 16
+  part_most = omega (arith, begins, ends, handed_most s e)
 
   -- the name, with the end of its line
   abbrev word : List ℕ
@@ -58,12 +71,12 @@ module _ {s : List ℕ} {e : ℕ} {r : NamePart} (h : Named s e r) where
       omega (arith, part_most, length-append (take (r.end - r.from) (drop r.from s)) (bytes "\n"), length-take (r.end - r.from) (drop r.from s))
 
   -- it is what is printed
-  word_told : r.verdict ≡ Passed → word ≡ printed_name s e
-  unfolding printed_name printed_by name_line name_refusal handed_back
-  word_told q =
-      let (p, z) = was_passed (name s e) (sym h.verdict ∙ lets_pass q) in
-      let size : r.end - r.from ≡ (handed_back (name s e)).size = omega (arith, h.begins, h.ends) in
-      rw (size, h.begins, z)
+  word_told : word ≡ printed_name s e
+  unfolding printed_name printed_by name_line name_refusal handed_back part_refusal
+  word_told =
+      let (p, z) = was_passed (name s e) (sym h.verdict) in
+      let size : r.end - r.from ≡ (handed_back (name s e)).size = omega (arith, begins, ends) in
+      rw (size, begins, z)
 
-  pub name_shown : {n : ℕ} {out left : List ℕ} → r.verdict ≡ Passed → length out ≡ 32768 → Writes word 0 out n left → Shows (printed_name s e) n left
-  name_shown q l w = shows_same (word_told q) (shows_written w (omega (arith, word_most)) l)
+  pub name_shown : {n : ℕ} {out left : List ℕ} → length out ≡ 32768 → Writes word 0 out n left → Shows (printed_name s e) n left
+  name_shown l w = shows_same word_told (shows_written w (omega (arith, word_most)) l)

@@ -5,7 +5,7 @@ use native.Mathlib.Omega.{arith}
 use mathlib.Core.Path.{◌≡◌, ap, sym, ◌∙◌}
 use mathlib.Core.List.{List, [], ◌∷◌, ◌++◌, flat_map, append-nil}
 use lib.ListN.{length, get_or, take, length-append, length-take}
-use lib.Seq.{take-suc}
+use lib.Seq.{take-suc, take_all}
 use Rattle.model.specs.Bytes.{bytes, numeral}
 use Rattle.model.specs.Printed.{spaced, places_word}
 use Rattle.model.proofs.ListLaws.{flat_map_append}
@@ -22,19 +22,19 @@ unfolding spaced
 spaced_append a b = flat_map_append (λ n. bytes " " ++ numeral n) a b
 
 -- the places of m machines are written, each with a space before it
-pub record Placed (places : List ℕ) (n at : ℕ) (out left : List ℕ) (i m : ℕ) : Type 0 where
-  pub most : m ≤ n
+pub record Placed (places : List ℕ) (at : ℕ) (out left : List ℕ) (i m : ℕ) : Type 0 where
+  pub most : m ≤ length places
   pub short : i ≤ at + 4 * m
   pub written : Writes (spaced (take m places)) at out i left
 
-module _ {places : List ℕ} {n at : ℕ} {out : List ℕ} where
-  pub placed_none : Placed places n at out out at 0
+module _ {places : List ℕ} {at : ℕ} {out : List ℕ} where
+  pub placed_none : Placed places at out out at 0
   unfolding spaced flat_map
   placed_none = record { most = omega arith; short = omega arith; written = writes_none }
 
-  pub placed_add : {left mid after : List ℕ} {i j k m q : ℕ} → Placed places n at out left i m → m < n → m < length places
-      → q ≡ get_or places m 0 → q < 256 → Writes (bytes " ") i left j mid → Writes (numeral q) j mid k after → Placed places n at out after k (m + 1)
-  placed_add {m = m} {q = q} p l inside e low v w =
+  pub placed_add : {left mid after : List ℕ} {i j k m q : ℕ} → Placed places at out left i m → m < length places
+      → q ≡ get_or places m 0 → q < 256 → Writes (bytes " ") i left j mid → Writes (numeral q) j mid k after → Placed places at out after k (m + 1)
+  placed_add {m = m} {q = q} p inside e low v w =
       record {
         most = omega arith;
         short = omega (arith, p.short, v.after, w.after, numeral_three q (omega arith));
@@ -46,12 +46,10 @@ module _ {places : List ℕ} {n at : ℕ} {out : List ℕ} where
           ap spaced (ap (λ k. take k places) (add-one m) ∙ take-suc places m 0 inside) ∙ spaced_append (take m places) (get_or places m 0 ∷ [])
           ∙ ap (λ w. spaced (take m places) ++ w) (spaced_one (get_or places m 0) ∙ ap (λ k. bytes " " ++ numeral k) (sym e))
 
-  pub placed_end : {all left after : List ℕ} {a i j m : ℕ} → Writes (bytes "(places") a all at out → Placed places n at out left i m → n ≤ m
-      → Writes (bytes "))\n") i left j after → Writes (places_word (take n places)) a all j after
+  pub placed_end : {all left after : List ℕ} {a i j m : ℕ} → Writes (bytes "(places") a all at out → Placed places at out left i m → length places ≤ m
+      → Writes (bytes "))\n") i left j after → Writes (places_word places) a all j after
   unfolding places_word
-  placed_end {m = m} w p h v =
-      let z : m ≡ n = omega (arith, p.most) in
-      writes_append w (writes_append (rw z at p.written) v)
+  placed_end {m = m} w p h v = writes_append w (writes_append (rw (take_all m places h) at p.written) v)
 
 -- how long the places of 16 machines may be
 spaced_most : (ns : List ℕ) → length (spaced ns) ≤ 21 * length ns

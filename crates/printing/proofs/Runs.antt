@@ -31,7 +31,7 @@ use Rattle.model.proofs.Refusing.{events_declared, events_unknown}
 use Rattle.model.proofs.Together.{run_length}
 use Rattle.model.proofs.Standing.{length_places}
 use Rattle.model.proofs.Demands.{demand1}
-use Rattle.rows.specs.declared.Verdict as Rows
+use Rattle.std.specs.Prelude as Std
 use Rattle.rows.specs.declared.Tables.{Tables}
 use Rattle.writers.proofs.Refusals.{numeral_most}
 use Rattle.product.specs.declared.Outcome.{Outcome}
@@ -49,7 +49,7 @@ use Rattle.printing.specs.Shown.{FewMachines, outcome_line}
 abbrev MachinesOf : List ℕ → ℕ → Type 0
 MachinesOf s n = (v : Input) → as_far_as12 s ≡ passed v → n ≡ length v.machines
 
-pub machines_of : {s : List ℕ} {r : Rows.Verdict} {p : Tables} {pre post excited : List ℕ} → ReadAsFarAs12 s r p pre post excited
+pub machines_of : {s : List ℕ} {r : Std.Result (Unit {0}) D.Refusal} {p : Tables} {pre post excited : List ℕ} → ReadAsFarAs12 s r p pre post excited
     → MachinesOf s p.counts.machines
 machines_of h v e =
     let j = h.judged (h.verdict ∙ ap refusal_of e) in

@@ -13,8 +13,7 @@ use Rattle.model.specs.TransitionSystem.{Transition}
 use Rattle.model.specs.Services.{as_far_as7, written_refusal}
 use Rattle.model.specs.Printed.{printed_by, transition_line, transition_lines, printed_steps}
 use Rattle.model.proofs.ListLaws.{flat_map_append}
-use Rattle.rows.specs.declared.Verdict.{Verdict}
-use Rattle.rows.specs.declared.Verdict.TheVariants.{Refused}
+use Rattle.std.specs.Prelude.{Result, Err}
 use Rattle.rows.specs.declared.Tables.{Tables}
 use Rattle.rows.specs.Tables.{verdict_refusal}
 use Rattle.rows.specs.Told.{transition_at, first_transitions}
@@ -103,8 +102,8 @@ module _ {sources events targets : List ℕ} {n at : ℕ} {out : List ℕ} where
 -- ---- the call
 
 -- refused by 1 to 7
-pub steps_refused : (s : List ℕ) (lent : ℕ) {n : ℕ} {r : Verdict} {why : D.Refusal} {left : List ℕ} → verdict_refusal r ≡ refusal_of (as_far_as7 s)
-    → r ≡ Refused why → Shows (written_refusal (tabled why)) n left → Shows (printed_steps s lent) n left
+pub steps_refused : (s : List ℕ) (lent : ℕ) {n : ℕ} {r : Result (Unit {0}) D.Refusal} {why : D.Refusal} {left : List ℕ} → verdict_refusal r ≡ refusal_of (as_far_as7 s)
+    → r ≡ Err why → Shows (written_refusal (tabled why)) n left → Shows (printed_steps s lent) n left
 unfolding printed_steps printed_by
 steps_refused s lent {why = why} h e w = let z : as_far_as7 s ≡ refused (tabled why) = refused_as h e in rw z w
 

@@ -16,7 +16,7 @@ use Rattle.model.proofs.Verdicts.{verdict12, refused_passed, same_refused, same_
 use Rattle.model.proofs.Refusing.{thin_is}
 use Rattle.model.proofs.Kept.{kept_length}
 use Rattle.irredundant.specs.Kept.{set_number}
-use Rattle.thin_service.specs.declared.Thinned.TheVariants as T
+use Rattle.std.specs.Prelude.{Ok, Err}
 use Rattle.thin_service.specs.Answers.{thinned, numbered_set}
 use Rattle.printing.specs.Shown.{kept_below}
 use Rattle.printing.proofs.Kept.{marked_kept}
@@ -43,7 +43,7 @@ print_as : (s : List ℕ) {c : Checked Kept} → thin s ≡ c → printed_thin s
 unfolding printed_thin
 print_as s e = ap (printed_by kept_line) e
 
-pub thin_refused : (s : List ℕ) (why : D.Refusal) → thinned (T.Refused why) ≡ numbered_set (thin s) → printed_thin s ≡ written_refusal (tabled why)
+pub thin_refused : (s : List ℕ) (why : D.Refusal) → thinned (Err why) ≡ numbered_set (thin s) → printed_thin s ≡ written_refusal (tabled why)
 unfolding thinned numbered_set printed_by
 thin_refused s why h = go (comes s)
   where
@@ -51,7 +51,7 @@ thin_refused s why h = go (comes s)
     go (stopped r e) = print_as s e ∙ ap written_refusal (sym (same_refused {A = ℕ × ℕ} (tabled why) r (h ∙ ap numbered_set e)))
     go (kept k e few) = absurd (refused_passed {A = ℕ × ℕ} (tabled why) (set_number k.marks, k.size) (h ∙ ap numbered_set e))
 
-pub thin_kept : (s : List ℕ) (machines size : ℕ) → thinned (T.Kept machines size) ≡ numbered_set (thin s) → printed_thin s ≡ set_line machines size
+pub thin_kept : (s : List ℕ) (machines size : ℕ) → thinned (Ok (record { machines = machines; size = size })) ≡ numbered_set (thin s) → printed_thin s ≡ set_line machines size
 unfolding thinned numbered_set printed_by kept_line set_line
 thin_kept s machines size h = go (comes s)
   where

@@ -4,6 +4,7 @@ use Rattle.std.proofs.Math.Option.{none, some}
 use Rattle.model.specs.Refusal.{Refusal, refuse, Checked, refused, passed}
 use Rattle.model.specs.Services.{Outcome, whole, blocked, refused_by, written_refusal}
 use Rattle.model.specs.Printed.{ran_word, places_word}
+pub use Rattle.answers.specs.Answers.{answered}
 
 -- the first n bytes of the buffer are this word, and the buffer has its length
 pub record Shows (word : List ℕ) (n : ℕ) (out : List ℕ) : Type 0 where

@@ -1,4 +1,5 @@
 -- An event on the machines together, in the model's words: the machines 0, 1, .. whose moves the rows tell, in the first places of a row.
+use Rattle.std.specs.Prelude.{Some, None}
 use Prim.Native.Nat.{ℕ, ◌<◌, ◌≤◌}
 use native.Mathlib.Omega.{arith}
 use mathlib.Core.Path.{◌≡◌, sym, ◌∙◌}
@@ -74,11 +75,11 @@ module _ {pre post : List ℕ} {machines : ℕ} {places : List ℕ} {e : ℕ} {s
   on_some_lem : product_step (move_at pre post) (numbers machines) (take machines places) e ≡ fire_all (move_at pre post) e (numbers machines) (take machines places)
   on_some_lem = step_effective (move_at pre post) (numbers machines) (take machines places) e on
 
-  pub step_moves : machines ≤ s.blocker → product_step (move_at pre post) (numbers machines) (take machines places) e ≡ some (take machines s.places)
+  pub step_moves : s.blocker ≡ None → product_step (move_at pre post) (numbers machines) (take machines places) e ≡ some (take machines s.places)
   step_moves h = on_some_lem ∙ steps.goes h
 
-  pub step_blocks : s.blocker < machines → product_step (move_at pre post) (numbers machines) (take machines places) e ≡ none
-  step_blocks h = on_some_lem ∙ (steps.halts h).0
+  pub step_blocks : (m : ℕ) → s.blocker ≡ Some m → product_step (move_at pre post) (numbers machines) (take machines places) e ≡ none
+  step_blocks m h = on_some_lem ∙ (steps.halts m h).0
 
 -- machine numbers not in use have 0 as before
 pub still_padded : {pre post : List ℕ} {machines : ℕ} {places : List ℕ} {e : ℕ} {s : Stepped} → machines ≤ 16 → length places ≡ 16

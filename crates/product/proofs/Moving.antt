@@ -1,8 +1,9 @@
 -- An event on the machines together, by the rows of their moves: the search for a machine that blocks it, and the machines side by side.
-use Prim.Native.Nat.{ℕ, ◌+◌, ◌*◌, ◌-◌, ◌<◌, ◌≤◌}
+use Rattle.std.specs.Prelude.{Option as Found, Some, None, IsSome, MatchOption}
+use Prim.Native.Nat.{ℕ, ◌+◌, ◌*◌, ◌<◌, ◌≤◌}
 use native.Mathlib.Decide.{ℕ_discrete}
 use native.Mathlib.Omega.{arith}
-use mathlib.Core.Path.{◌≡◌, refl, ap, sym, ◌∙◌, subst}
+use mathlib.Core.Path.{◌≡◌, refl, ap, sym, ◌∙◌}
 use mathlib.Core.Logic.{◌⊎◌, inl, inr, ⊎_elim}
 use mathlib.Core.List.{List}
 use mathlib.Core.Option.{Option, none, some}
@@ -13,9 +14,9 @@ use lib.ListN.{length, take, set, length-set}
 use lib.Seq.{get_or-set_same, get_or-set_other}
 use Rattle.model.specs.Lists.{is_some, lowest, numbers}
 use Rattle.model.specs.Product.{move_from, fire, fire_all, blocker}
-use Rattle.model.proofs.Laws.{T_true, and_l, and_r, and_not, contra, order, not_le, lowest_none}
-use Rattle.rows.specs.Told.{entry, below}
-use Rattle.rows.proofs.Searches.{below_in, below_out, lowest_same, searched}
+use Rattle.model.proofs.Laws.{T_true, and_l, and_r, and_not, contra, order, lowest_none, Lowest, found, absent, lowest_view}
+use Rattle.rows.specs.Told.{entry}
+use Rattle.rows.proofs.Searches.{lowest_same}
 use Rattle.regions.specs.Moves.{move_at}
 use Rattle.product.specs.Stepping.{PlaceBounds, blocks_at, Steps}
 use Rattle.product.specs.Lanes.{Blocking, Lanes}
@@ -63,37 +64,30 @@ module _ (pre post places : List ℕ) (e k : ℕ) where
       go false = refl
       go true = here (eqb (entry places k) (entry_of pre e k))
 
--- the search: `left` machines are still to come, and those before them do not block
-pub record Passing (pre : List ℕ) (machines : ℕ) (places : List ℕ) (e left : ℕ) : Type 0 where
-  pub most : left ≤ machines
-  pub passed : (k : ℕ) → k < machines - left → T (not (blocks_at pre places e k))
+-- what is the lowest stands below the bound
+lowest_below : (f : ℕ → Bool) (n m : ℕ) → lowest f n ≡ some m → m < n
+lowest_below f n m q = go (lowest_view f n)
+  where
+    go : Lowest f n → m < n
+    go (found k p l t h) = let s : k ≡ m = cc in rw s at l
+    go (absent p h) = cc
 
+-- one that is passed does not block, and one that is not ready does
+module _ (pre places : List ℕ) (e m : ℕ) {stands : Bool} (v : stands ≡ ready pre places e m) where
+  pub passes : stands ≡ true → T (not (blocks_at pre places e m))
+  passes t = rw (blocks_ready pre places e m, ← v, t) tt
+
+  pub blocks : stands ≡ false → T (blocks_at pre places e m)
+  blocks t = rw (blocks_ready pre places e m, ← v, t) tt
+
+-- one blocks, and the search finds one
 module _ {pre : List ℕ} {machines : ℕ} {places : List ℕ} {e : ℕ} where
-  pub pass_start : Passing pre machines places e machines
-  pass_start = record { most = omega arith; passed = λ k l. absurd (omega arith) }
-
-  module _ {left : ℕ} (p : Passing pre machines places e left) (l : 0 < left) {stands : Bool}
-      (v : stands ≡ ready pre places e (machines - left)) where
-    blocks_turn : blocks_at pre places e (machines - left) ≡ not stands
-    blocks_turn = rw v (blocks_ready pre places e (machines - left))
-
-    pub pass_more : not stands ≡ false → Passing pre machines places e (left - 1)
-    pass_more t = record { most = omega (arith, p.most); passed = λ k i. at k (order k (machines - left)) (omega (arith, p.most)) }
-      where
-        at : (k : ℕ) → (k < machines - left) ⊎ (machines - left ≤ k) → k ≤ machines - left → T (not (blocks_at pre places e k))
-        at k (inl b) c = p.passed k b
-        at k (inr b) c = let q : k ≡ machines - left = omega arith in rw (q, blocks_turn, t) tt
-
-    pub pass_found : not stands ≡ true → (machines - left ≤ machines) × (below machines (machines - left) ≡ lowest (blocks_at pre places e) machines)
-    pass_found t = (omega arith, searched (blocks_at pre places e) machines (machines - left) (omega arith) p.passed (λ i. rw (blocks_turn, t) tt))
-
-  pub pass_end : {left : ℕ} → Passing pre machines places e left → left ≤ 0 → (machines ≤ machines) × (below machines machines ≡ lowest (blocks_at pre places e) machines)
-  pass_end p l = (omega arith, searched (blocks_at pre places e) machines machines (omega arith) (λ k i. p.passed k (omega arith)) (λ i. absurd (omega arith)))
+  pub lane_stops : Blocking pre machines places e → (r : Found ℕ) → MatchOption r (lowest (blocks_at pre places e) machines ≡ none) (λ m. lowest (blocks_at pre places e) machines ≡ some m)
+      → IsSome r
+  lane_stops b None f = absurd (contra (blocks_at pre places e b.machine) (lowest_none (blocks_at pre places e) machines f b.machine b.among) b.blocks)
+  lane_stops b (Some m) f = refl
 
 module _ {pre post : List ℕ} {machines : ℕ} {places : List ℕ} {e : ℕ} where
-  pub lane_start : length places ≡ 16 → Lanes pre post machines places e places true 0
-  lane_start h = record { most = omega arith; size = h; went = λ t k l. absurd (omega arith); halted = λ t. absurd t; later = λ k l. refl; unused = λ k l. refl }
-
   module _ {moved : List ℕ} {all : Bool} {m : ℕ} (z : Lanes pre post machines places e moved all m) (l : m < 16) where
     -- one number more: `stands` says whether its machine is ready, and q where it goes
     lane_on : (stands : Bool) (q : ℕ) → (T stands → m < machines → fire (move_at pre post) m e (entry places m) ≡ some q)
@@ -144,53 +138,45 @@ module _ {pre post : List ℕ} {machines : ℕ} {places : List ℕ} {e : ℕ} wh
               let s : stands ≡ true = v ∙ rw o in
               lane_on stands q (λ t c. absurd (omega arith)) (λ t. absurd (rw s at t)) (λ c. w ∙ rw o)
 
-  -- all sixteen are passed
-  pub lane_all : {moved : List ℕ} {all : Bool} {m : ℕ} → Lanes pre post machines places e moved all m → 16 ≤ m → Lanes pre post machines places e moved all 16
-  lane_all {moved} {all} {m} z l = let q : m ≡ 16 = omega (arith, z.most) in subst (Lanes pre post machines places e moved all) q z
+  -- all sixteen are passed, and all are ready
+  pub lane_all : {moved : List ℕ} {all : Bool} {m : ℕ} → Lanes pre post machines places e moved all m → 16 ≤ m → all ≡ true → Lanes pre post machines places e moved true 16
+  lane_all {moved} {all} {m} z l t = let q : m ≡ 16 = omega (arith, z.most) in rw (q, t) at z
 
-  module _ {moved : List ℕ} {all : Bool} (z : Lanes pre post machines places e moved all 16) (few : machines ≤ 16) where
+  module _ (few : machines ≤ 16) (s : length places ≡ 16) where
     -- none blocks
-    pub lane_end : length places ≡ 16 → all ≡ true → Steps pre post machines places e (record { blocker = machines; places = moved })
+    pub lane_end : {moved : List ℕ} → Lanes pre post machines places e moved true 16 → Steps pre post machines places e (record { blocker = None; places = moved })
     unfolding is_some
-    lane_end s t =
+    lane_end {moved} z =
         record {
-          most = omega arith;
+          among = λ m q. cc;
           blocker = sym (rows_pass pre post machines places e (omega (arith, s)) (λ k i. rw (went k i) tt));
-          halts = λ i. absurd (omega arith);
-          goes = λ i. rows_go pre post machines places e (omega (arith, s)) moved (omega (arith, z.size)) went;
+          halts = λ m q. cc;
+          goes = λ _. rows_go pre post machines places e (omega (arith, s)) moved (omega (arith, z.size)) went;
           size = z.size;
           others = z.unused;
         }
       where
         went : (k : ℕ) → k < machines → fire (move_at pre post) k e (entry places k) ≡ some (entry moved k)
-        went k i = z.went (rw t tt) k (omega arith) i
+        went k i = z.went tt k (omega arith) i
 
-    -- one blocks, and the search finds the lowest
-    pub lane_stops : all ≡ false → {r : ℕ} → (r ≤ machines) × (below machines r ≡ lowest (blocks_at pre places e) machines) → r < machines
-    lane_stops t {r} f = not_le machines r (ends (z.halted (rw t tt)))
-      where
-        ends : Blocking pre machines places e → machines ≤ r → ⊥
-        ends b i =
-            let None-found = lowest_none (blocks_at pre places e) machines (sym f.1 ∙ below_out machines r i) b.machine b.among in
-            contra (blocks_at pre places e b.machine) None-found b.blocks
-
-    pub lane_blocked : length places ≡ 16 → all ≡ false → {r : ℕ} → (r ≤ machines) × (below machines r ≡ lowest (blocks_at pre places e) machines)
+    -- one blocks: the lowest
+    pub lane_blocked : Blocking pre machines places e → (r : Found ℕ) → MatchOption r (lowest (blocks_at pre places e) machines ≡ none) (λ m. lowest (blocks_at pre places e) machines ≡ some m)
         → Steps pre post machines places e (record { blocker = r; places = places })
-    lane_blocked s t {r} f =
+    lane_blocked b None f = let stops : IsSome {T = ℕ} None = lane_stops b None f in cc
+    lane_blocked b (Some m) f =
         record {
-          most = f.0;
+          among = λ k q. let p : m ≡ k = cc in rw p at low;
           blocker = sym halted.1;
-          halts = λ i. (halted.0, refl);
-          goes = λ i. absurd (omega (arith, stops));
+          halts = λ k q. (halted.0, refl);
+          goes = λ q. cc;
           size = s;
           others = λ k i. refl;
         }
       where
-        stops : r < machines
-        stops = lane_stops t f
+        low : m < machines
+        low = lowest_below (blocks_at pre places e) machines m f
 
-        halted : (fire_all (move_at pre post) e (numbers machines) (take machines places) ≡ none) × (blocker (move_at pre post) (numbers machines) (take machines places) e ≡ r)
+        halted : (fire_all (move_at pre post) e (numbers machines) (take machines places) ≡ none) × (blocker (move_at pre post) (numbers machines) (take machines places) e ≡ m)
         halted =
-            rows_halt pre post machines places e (omega (arith, s)) r
-            (sym (below_in machines r stops) ∙ f.1
-            ∙ lowest_same (blocks_at pre places e) (λ k. not (is_some (fire (move_at pre post) k e (entry places k)))) machines (λ k i. blocks_fires pre post places e k))
+            rows_halt pre post machines places e (omega (arith, s)) m
+            (sym f ∙ lowest_same (blocks_at pre places e) (λ k. not (is_some (fire (move_at pre post) k e (entry places k)))) machines (λ k i. blocks_fires pre post places e k))

@@ -1,4 +1,5 @@
 -- The events one after another: as far as they ran, the model's run goes on from where the machines stand.
+use Rattle.std.specs.Prelude.{Some, None}
 use Prim.Native.Nat.{ℕ, suc, ◌+◌, ◌<◌, ◌≤◌}
 use native.Mathlib.Numerals.{add-one}
 use native.Mathlib.Omega.{arith}
@@ -7,7 +8,7 @@ use mathlib.Core.List.{List}
 use lib.ListN.{length, take, drop, drop_of_length-le}
 use lib.Seq.{drop-cons}
 use Rattle.model.specs.Lists.{numbers}
-use Rattle.model.specs.Product.{Ran, one_more, run_from}
+use Rattle.model.specs.Product.{Ran, one_more, run_from, blocker}
 use Rattle.model.specs.Services.{whole, blocked, outcome_of, ran_answer}
 use Rattle.model.proofs.Together.{run_stops, run_goes}
 use Rattle.rows.specs.Told.{entry}
@@ -41,16 +42,13 @@ pub record Running (pre post : List ℕ) (machines : ℕ) (start events places :
   pub rest : run_rows pre post machines (take machines start) events ≡ after ran (run_rows pre post machines (take machines places) (drop ran events))
 
 module _ {pre post : List ℕ} {machines : ℕ} {start events : List ℕ} where
-  pub run_start : length start ≡ 16 → IsPadded machines start → Running pre post machines start events start 0
-  run_start s h = record { most = omega arith; size = s; standing = h; rest = after_none (run_rows pre post machines (take machines start) events) }
-
   module _ {places : List ℕ} {ran : ℕ} (run : Running pre post machines start events places ran) where
     module _ (l : ran < length events) (on : EventsOn pre post machines events) {e : ℕ} (v : e ≡ entry events ran) {s : Stepped} (made : Steps pre post machines places e s) where
       steps : Steps pre post machines places (entry events ran) s
       steps = subst (λ (x : ℕ). Steps pre post machines places x s) v made
 
       -- the next event runs
-      pub run_more : machines ≤ 16 → machines ≤ s.blocker → Running pre post machines start events s.places (ran + 1)
+      pub run_more : machines ≤ 16 → s.blocker ≡ None → Running pre post machines start events s.places (ran + 1)
       run_more few h =
           let rs = take machines s.places in
           let es = drop (suc ran) events in
@@ -63,13 +61,14 @@ module _ {pre post : List ℕ} {machines : ℕ} {start events : List ℕ} where
           }
 
       -- a machine blocks it: all stay where they are
-      pub run_blocked : s.blocker < machines
-          → RunsFrom pre post machines start events (run_answer (record { outcome = Blocked ran s.blocker; places = s.places }))
+      pub run_blocked : {m : ℕ} → s.blocker ≡ Some m
+          → RunsFrom pre post machines start events (run_answer (record { outcome = Blocked ran m; places = s.places }))
       unfolding run_answer outcome_is ran_answer outcome_of
-      run_blocked h =
-          let stops = run_stops (move_at pre post) (numbers machines) (take machines places) (entry events ran) (drop (suc ran) events) (step_blocks (on ran l).1 steps h) in
+      run_blocked {m} h =
+          let stops = run_stops (move_at pre post) (numbers machines) (take machines places) (entry events ran) (drop (suc ran) events) (step_blocks (on ran l).1 steps m h) in
           let z : ran + 0 ≡ ran = omega arith in
-          rw (run.rest, drop-cons events ran 0 l, stops, z, sym steps.blocker, (steps.halts h).1) (ap (λ (ps : List ℕ). record { outcome = blocked ran s.blocker; places = ps }) run.standing)
+          let who : m ≡ blocker (move_at pre post) (numbers machines) (take machines places) (entry events ran) = rw h at steps.blocker in
+          rw (run.rest, drop-cons events ran 0 l, stops, z, sym who, (steps.halts m h).1) (ap (λ (ps : List ℕ). record { outcome = blocked ran m; places = ps }) run.standing)
 
     -- all ran
     pub run_end : length events ≤ ran → RunsFrom pre post machines start events (run_answer (record { outcome = Whole; places = places }))

@@ -1,10 +1,9 @@
 -- The sixteen machine numbers side by side.
-use Rattle.std.specs.Prelude.{ℕ, ◌≤◌, ◌<◌, ◌≡◌, Bool, not, List, T, length}
+use Rattle.std.specs.Prelude.{ℕ, Option, MatchOption, true, ◌≤◌, ◌<◌, ◌≡◌, Bool, not, List, T, length}
 use Rattle.std.proofs.Math.Option.{some}
 use Rattle.model.specs.Product.{fire}
 use Rattle.rows.specs.Told.{entry}
 use Rattle.regions.specs.Moves.{move_at}
-use Rattle.product.specs.declared.Moved.{Moved}
 use Rattle.product.specs.Stepping.{PlaceBounds, blocks_at}
 
 -- a machine that blocks
@@ -22,6 +21,7 @@ pub record Lanes (pre post : List ℕ) (machines : ℕ) (places : List ℕ) (e :
   pub later : (k : ℕ) → m ≤ k → entry moved k ≡ entry places k
   pub unused : (k : ℕ) → machines ≤ k → entry moved k ≡ entry places k
 
--- event e from these places, for as many machines as have a bound
-abbrev pub Moves : List ℕ → List ℕ → List ℕ → List ℕ → ℕ → Moved → Type 0
-Moves pre post bounds places e r = (machines : ℕ) → PlaceBounds machines bounds → Lanes pre post machines places e r.places r.ready 16
+-- event e from these places, for as many machines as have a bound: one blocks, or all have moved
+abbrev pub Moves : List ℕ → List ℕ → List ℕ → List ℕ → ℕ → Option (List ℕ) → Type 0
+Moves pre post bounds places e r =
+    (machines : ℕ) → PlaceBounds machines bounds → MatchOption r (Blocking pre machines places e) (λ moved. Lanes pre post machines places e moved true 16)

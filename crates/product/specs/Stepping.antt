@@ -1,5 +1,5 @@
 -- How the machines stand, step and run, by the rows of their moves.
-use Rattle.std.specs.Prelude.{ℕ, ◌+◌, ◌*◌, ◌≤◌, ◌<◌, ◌≡◌, Bool, not, ◌&&◌, List, T, eqb, ltb, length, take}
+use Rattle.std.specs.Prelude.{ℕ, Some, None, unwrap_or, ◌+◌, ◌*◌, ◌≤◌, ◌<◌, ◌≡◌, Bool, not, ◌&&◌, List, T, eqb, ltb, length, take}
 use Rattle.std.proofs.Math.Option.{none, some}
 use Rattle.model.specs.Lists.{numbers}
 use Rattle.model.specs.Refusal.{passed}
@@ -23,12 +23,12 @@ PlaceBounds = Standing (λ _. 64)
 unfoldable pub blocks_at : List ℕ → List ℕ → ℕ → ℕ → Bool
 blocks_at pre places e k = ltb (entry pre (e * 16 + k)) 64 && not (eqb (entry places k) (entry pre (e * 16 + k)))
 
--- Event e from these places, on the machines whose moves the rows tell: the lowest that blocks it, and all stay; or their count, and they have moved
+-- Event e from these places, on the machines whose moves the rows tell: the lowest that blocks it, and all stay; or none, and they have moved
 pub record Steps (pre post : List ℕ) (machines : ℕ) (places : List ℕ) (e : ℕ) (r : Stepped) : Type 0 where
-  pub most : r.blocker ≤ machines
-  pub blocker : r.blocker ≡ blocker (move_at pre post) (numbers machines) (take machines places) e
-  pub halts : r.blocker < machines → (fire_all (move_at pre post) e (numbers machines) (take machines places) ≡ none) × (r.places ≡ places)
-  pub goes : machines ≤ r.blocker → fire_all (move_at pre post) e (numbers machines) (take machines places) ≡ some (take machines r.places)
+  pub among : (m : ℕ) → r.blocker ≡ Some m → m < machines
+  pub blocker : unwrap_or r.blocker machines ≡ blocker (move_at pre post) (numbers machines) (take machines places) e
+  pub halts : (m : ℕ) → r.blocker ≡ Some m → (fire_all (move_at pre post) e (numbers machines) (take machines places) ≡ none) × (r.places ≡ places)
+  pub goes : r.blocker ≡ None → fire_all (move_at pre post) e (numbers machines) (take machines places) ≡ some (take machines r.places)
   pub size : length r.places ≡ 16
   pub others : (k : ℕ) → machines ≤ k → entry r.places k ≡ entry places k
 

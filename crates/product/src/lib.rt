@@ -1,19 +1,19 @@
 // Run: the machines together, from given places over a list of events.
 #![tactic(auto)]
 
-ghost use Rattle.std.specs.Prelude.{◌≡◌, [], ◌∷◌, not, cond, ◌||◌, ◌*◌, ◌+◌, ◌<◌, ◌≤◌, eqb, ltb, length};
-ghost use Rattle.model.specs.Lists.{index, lowest};
+ghost use Rattle.std.specs.Prelude.{◌≡◌, [], ◌∷◌, not, cond, ◌||◌, ◌*◌, ◌+◌, ◌<◌, ◌≤◌, eqb, nat_le, position, MatchOption};
+ghost use Rattle.std.proofs.Math.Option.{none, some};
+ghost use Rattle.model.specs.Lists.{lowest};
 ghost use Rattle.model.specs.Refusal as Checked;
 ghost use Rattle.model.specs.Cases.{tabled};
 ghost use Rattle.model.specs.Services.{ran_answer};
-ghost use Rattle.rows.specs.Told.{entry, below};
-ghost use Rattle.regions.specs.Moves.{MoveRows};
+ghost use Rattle.rows.specs.Told.{entry};
 ghost use Rattle.product.specs.Answers.{run_answer};
-ghost use Rattle.product.specs.Lanes.{Moves};
+ghost use Rattle.product.specs.Lanes as Lanes;
 ghost use Rattle.product.specs.Stepping.{Standing, PlaceBounds, blocks_at, Steps, IsPadded, EventsOn, RunsFrom, Runs, RunsEvents};
 
 use model::{MAX_MACHINES, MAX_PLACES, MAX_STATES, Refusal};
-use rows::wide;
+use rows::{Moves, Tables};
 
 // What became of a list of events.
 #[derive(Clone, Copy)]
@@ -25,7 +25,7 @@ pub enum Outcome {
     Refused(Refusal),
 }
 
-// The place of each machine, 0 for machine numbers not in use; all 0 where the call is refused.
+// The place of each machine, 0 for machine numbers not in use; all 0 where the call is refused. Outcome and places are no Result: so the papers have the answer.
 #[derive(Clone, Copy)]
 pub struct RunAnswer {
     pub outcome: Outcome,
@@ -42,30 +42,28 @@ pub fn refused(why: Refusal) -> RunAnswer
 }
 
 // The place of each machine with this state.
-pub fn places_of(place: &[u8], state: usize, machines: usize) -> [u8; MAX_MACHINES]
-    requires { (length place.now ≡ 4096) × (state < 256) × (machines ≤ 16) }
-    ensures { Standing (λ k. entry place.now (k * 256 + state)) machines result }
+pub fn places_of(plan: &Tables, state: usize) -> [u8; MAX_MACHINES]
+    requires { (state < 256) × (plan.now.counts.machines ≤ 16) }
+    ensures { Standing (λ k. entry plan.now.place (k * 256 + state)) plan.now.counts.machines result }
 {
     let mut places = [0u8; MAX_MACHINES];
-    let mut m = 0;
-    while m < machines {
-        places[m] = place[m * MAX_STATES + state];
-        m += 1;
+    for m in 0..plan.counts.machines {
+        places[m] = plan.place[m * MAX_STATES + state];
     }
     places
 }
 
-// An event on the machines together: the lowest machine that blocks it, or their count, and where they stand then.
+// An event on the machines together: the lowest machine that blocks it, and where they stand then.
 #[derive(Drop)]
 pub struct Stepped {
-    pub blocker: usize,
+    pub blocker: Option<usize>,
     pub places: [u8; MAX_MACHINES],
 }
 
 // A pre-place below this says that the event is on the machine.
 const PLACE_BOUND: u8 = MAX_PLACES as u8;
 
-// A machine that has the event stands in its pre-place.
+// A machine that has the event stands in its pre-place. Both are asked of each, so that the lanes have no branch.
 fn is_ready(on: bool, from: u8, place: u8) -> bool
     ensures { result ≡ (not on || eqb place from) }
 {
@@ -79,22 +77,24 @@ fn place_after(on: bool, to: u8, place: u8) -> u8
     if on { to } else { place }
 }
 
-// The lowest machine that has event e and stands elsewhere than in its pre-place; their count if there is none.
-pub fn blocking_machine(pre: &[u8], machines: usize, places: [u8; MAX_MACHINES], e: usize) -> usize
-    requires { (machines ≤ 16) × (e < 64) × (length pre.now ≡ 1024) }
-    ensures { (result ≤ machines) × (below machines result ≡ lowest (blocks_at pre.now places e) machines) }
+// The lowest machine that has event e and stands elsewhere than in its pre-place.
+pub fn blocking_machine(
+    moves: &Moves,
+    machines: usize,
+    places: [u8; MAX_MACHINES],
+    e: usize,
+) -> Option<usize>
+    requires { (machines ≤ 16) × (e < 64) }
+    ensures { MatchOption result (lowest (blocks_at moves.now.pre places e) machines ≡ none) (λ m. lowest (blocks_at moves.now.pre places e) machines ≡ some m) }
 {
     let at = e * MAX_MACHINES;
-    let mut left = machines;
-    while 0 < left {
-        let m = machines - left;
-        let from = pre[at + m];
+    for m in 0..machines {
+        let from = moves.pre[at + m];
         if !is_ready(from < PLACE_BOUND, from, places[m]) {
-            return m;
+            return Some(m);
         }
-        left -= 1;
     }
-    machines
+    None
 }
 
 // The bound of each machine's pre-places; 0 for machine numbers not in use, which have no event.
@@ -103,120 +103,81 @@ pub fn place_bounds(machines: usize) -> [u8; MAX_MACHINES]
     ensures { PlaceBounds machines result }
 {
     let mut bounds = [0u8; MAX_MACHINES];
-    let mut m = 0;
-    while m < machines {
-        bounds[m] = PLACE_BOUND;
-        m += 1;
-    }
+    bounds[..machines].fill(PLACE_BOUND);
     bounds
 }
 
-// The machine numbers side by side: whether each that has the event is ready for it, and where they go if all are.
-#[derive(Drop)]
-pub struct Moved {
-    pub ready: bool,
-    pub places: [u8; MAX_MACHINES],
-}
-
-// Event e from these places. All sixteen machine numbers are taken alike, so that they are one vector. Their count is read from a row, and which machine blocks is no
-// part of this: where the count is known the loop is unrolled, and only before that is it small enough to be compiled into each loop that calls it.
-pub fn move_lanes<'a>(
-    pre: &'a [u8],
-    post: &'a [u8],
+// Where the machines go by event e from these places, if each that has it is ready for it. All sixteen machine numbers are taken alike, so that they are one vector.
+// Their count is read from a row, and which machine blocks is no part of this: where the count is known the loop is unrolled, and only before that is it small enough
+// to be compiled into each loop that calls it.
+pub fn move_lanes(
+    moves: &Moves,
     bounds: [u8; MAX_MACHINES],
     places: [u8; MAX_MACHINES],
     e: usize,
-    count: &'a [usize; 1],
-) -> Moved
-    requires { (e < 64) × MoveRows pre.now post.now × (count.now ≡ 16 ∷ []) }
-    ensures { Moves pre.now post.now bounds places e result }
+    count: &[usize; 1],
+) -> Option<[u8; MAX_MACHINES]>
+    requires { (e < 64) × (count.now ≡ 16 ∷ []) }
+    ensures { Lanes.Moves moves.now.pre moves.now.post bounds places e result }
 {
     let at = e * MAX_MACHINES;
-    let lanes = count[0];
     let mut moved = places;
     let mut ready = true;
-    let mut m = 0;
-    while m < lanes {
-        let from = pre[at + m];
+    for m in 0..count[0] {
+        let from = moves.pre[at + m];
         let on = from < bounds[m];
-        ready = ready & is_ready(on, from, places[m]);
-        moved[m] = place_after(on, post[at + m], places[m]);
-        m += 1;
+        ready &= is_ready(on, from, places[m]);
+        moved[m] = place_after(on, moves.post[at + m], places[m]);
     }
-    Moved {
-        ready,
-        places: moved,
-    }
+    if ready { Some(moved) } else { None }
 }
 
 // Event e from these places: which machine blocks is asked only where one does.
-fn step<'a>(
-    pre: &'a [u8],
-    post: &'a [u8],
+fn step(
+    moves: &Moves,
     machines: usize,
     bounds: [u8; MAX_MACHINES],
     places: [u8; MAX_MACHINES],
     e: usize,
 ) -> Stepped
-    requires { (machines ≤ 16) × PlaceBounds machines bounds × (e < 64) × MoveRows pre.now post.now }
-    ensures { Steps pre.now post.now machines places e result }
+    requires { (machines ≤ 16) × PlaceBounds machines bounds × (e < 64) }
+    ensures { Steps moves.now.pre moves.now.post machines places e result }
 {
-    let count = [MAX_MACHINES; 1];
-    let moved = move_lanes(pre, post, bounds, places, e, &count);
-    let ready = moved.ready;
-    let after = moved.places;
-    if ready {
+    if let Some(after) = move_lanes(moves, bounds, places, e, &[MAX_MACHINES]) {
         return Stepped {
-            blocker: machines,
+            blocker: None,
             places: after,
         };
     }
-    let blocker = blocking_machine(pre, machines, places, e);
-    Stepped { blocker, places }
+    Stepped {
+        blocker: blocking_machine(moves, machines, places, e),
+        places,
+    }
 }
 
-// 14: the lowest position of an event that is not declared; the length of the list if there is none.
-fn unknown_event(events: &[u8], declared: usize) -> usize
-    ensures { result ≡ index (λ e. not (ltb e declared)) events.now }
+// 14: the lowest position of an event that is not declared.
+fn unknown_event(events: &[u8], declared: usize) -> Option<usize>
+    ensures { result ≡ position (λ e. nat_le declared e) events.now }
 {
-    let mut i = 0;
-    while i < events.len() {
-        if wide(events[i]) >= declared {
-            return i;
-        }
-        i += 1;
-    }
-    i
+    events.iter().position(|e| usize::from(*e) >= declared)
 }
 
 // The events one after another, as far as the first that a machine blocks.
-fn run_from<'a>(
-    pre: &'a [u8],
-    post: &'a [u8],
-    machines: usize,
-    start: [u8; MAX_MACHINES],
-    events: &'a [u8],
-) -> RunAnswer
-    requires { (machines ≤ 16) × MoveRows pre.now post.now × IsPadded machines start × EventsOn pre.now post.now machines events.now }
-    ensures { RunsFrom pre.now post.now machines start events.now (run_answer result) }
+fn run_from(moves: &Moves, machines: usize, start: [u8; MAX_MACHINES], events: &[u8]) -> RunAnswer
+    requires { (machines ≤ 16) × IsPadded machines start × EventsOn moves.now.pre moves.now.post machines events.now }
+    ensures { RunsFrom moves.now.pre moves.now.post machines start events.now (run_answer result) }
 {
     let bounds = place_bounds(machines);
     let mut places = start;
-    let mut ran = 0;
-    while ran < events.len() {
-        let next = step(pre, post, machines, bounds, places, wide(events[ran]));
+    for (ran, event) in events.iter().enumerate() {
+        let next = step(moves, machines, bounds, places, usize::from(*event));
         places = next.places;
-        let blocker = next.blocker;
-        if blocker < machines {
+        if let Some(machine) = next.blocker {
             return RunAnswer {
-                outcome: Outcome::Blocked {
-                    ran,
-                    machine: blocker,
-                },
+                outcome: Outcome::Blocked { ran, machine },
                 places,
             };
         }
-        ran += 1;
     }
     RunAnswer {
         outcome: Outcome::Whole,
@@ -225,20 +186,18 @@ fn run_from<'a>(
 }
 
 // The events are declared, or the lowest position of one that is not is refused; then they run.
-pub fn run_events<'a>(
-    pre: &'a [u8],
-    post: &'a [u8],
+pub fn run_events(
+    moves: &Moves,
     machines: usize,
     declared: usize,
     start: [u8; MAX_MACHINES],
-    events: &'a [u8],
+    events: &[u8],
 ) -> RunAnswer
-    requires { Runs pre.now post.now machines declared start }
-    ensures { RunsEvents pre.now post.now machines declared start events.now (run_answer result) }
+    requires { Runs moves.now.pre moves.now.post machines declared start }
+    ensures { RunsEvents moves.now.pre moves.now.post machines declared start events.now (run_answer result) }
 {
-    let position = unknown_event(events, declared);
-    if position < events.len() {
+    if let Some(position) = unknown_event(events, declared) {
         return refused(Refusal::UnknownEvent { position }); // 14 odd call
     }
-    run_from(pre, post, machines, start, events)
+    run_from(moves, machines, start, events)
 }

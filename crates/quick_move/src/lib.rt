@@ -7,20 +7,17 @@ ghost use Rattle.model.proofs.Words.{Spans};
 ghost use Rattle.names.specs.Held.{Same};
 ghost use Rattle.quick_move.specs.Quick.{ReadsQuickly, Framed};
 
-use model::MAX_EVENTS;
-use names::{HINTS, hint, is_name_at, second_hint};
+use lexer::PackedName;
+use names::Names;
 use quick_words::{four_bytes, guess_size, is_byte, pack_name, short_figure_at};
 
-// A move, verified; or nothing is known of it.
+// A move, verified: its event, its places and the position after it.
 #[derive(Drop)]
-pub enum QuickMove {
-    Unknown,
-    Found {
-        event: usize,
-        pre: usize,
-        post: usize,
-        next: usize,
-    },
+pub struct QuickMove {
+    pub event: usize,
+    pub pre: usize,
+    pub post: usize,
+    pub next: usize,
 }
 
 // The seven bytes " (move " stand at a position.
@@ -41,81 +38,51 @@ fn is_framed(s: &[u8], at: usize, to: usize, mid: usize, end: usize) -> bool
     is_move(s, at) & is_byte(s, to, b' ') & is_byte(s, mid, b' ') & is_byte(s, end, b')')
 }
 
-// Entry k is among the first ones, and is the name of this size with these numbers.
-fn is_known<'a>(
-    len: &'a [usize; MAX_EVENTS],
-    high: &'a [u64; MAX_EVENTS],
-    low: &'a [u64; MAX_EVENTS],
-    count: usize,
-    k: usize,
-    n: usize,
-    h: u64,
-    l: u64,
-) -> bool
+// Entry k is one of the names, and is this one.
+fn is_known(names: &Names, k: usize, name: PackedName) -> bool
     requires { k < 64 }
-    ensures { result ≡ true → (k < count) × Same «len».now «high».now «low».now n h l k }
+    ensures { result ≡ true → (k < names.now.count) × Same names.now.«len» names.now.«high» names.now.«low» name.«len» name.«high» name.«low» k }
 {
-    is_name_at(len, high, low, k, n, h, l) & (k < count)
+    names.is_at(k, name) & (k < names.count)
 }
 
 // The move at a position with 40 bytes from there on, since words are read past its end.
-fn verified_move<'a>(
-    s: &[u8],
-    at: usize,
-    len: &'a [usize; MAX_EVENTS],
-    high: &'a [u64; MAX_EVENTS],
-    low: &'a [u64; MAX_EVENTS],
-    count: usize,
-    hints: &'a [u8; HINTS],
-) -> QuickMove
+fn verified_move(s: &[u8], at: usize, names: &Names) -> Option<QuickMove>
     requires { at + 40 ≤ length s.now }
-    ensures { ReadsQuickly s.now at count «len».now «high».now «low».now result }
+    ensures { ReadsQuickly s.now at names.now.count names.now.«len» names.now.«high» names.now.«low» result }
 {
     let from = at + 7;
-    let size = guess_size(s, from);
-    let name = pack_name(s, from, size);
-    let to = from + size;
+    let name = pack_name(s, from, guess_size(s, from));
+    let to = from + name.len;
     let a = short_figure_at(s, to + 1);
     let mid = to + 1 + a.size;
     let b = short_figure_at(s, mid + 1);
     let end = mid + 1 + b.size;
-    let next = end + 1;
     let formed = is_framed(s, at, to, mid, end) & a.found & b.found;
     if !formed {
-        return QuickMove::Unknown;
+        return None;
     }
-    let mut k = hint(hints, name.high, name.low);
-    if !is_known(len, high, low, count, k, size, name.high, name.low) {
-        k = second_hint(hints, name.high, name.low);
-        if !is_known(len, high, low, count, k, size, name.high, name.low) {
-            return QuickMove::Unknown;
+    let mut event = names.hint(name);
+    if !is_known(names, event, name) {
+        event = names.second_hint(name);
+        if !is_known(names, event, name) {
+            return None;
         }
     }
-    QuickMove::Found {
-        event: k,
+    Some(QuickMove {
+        event,
         pre: a.value,
         post: b.value,
-        next,
-    }
+        next: end + 1,
+    })
 }
 
 // The move at a position, if the hints lead to its name and its figures have at most two digits.
-pub fn read_move_quickly<'a>(
-    s: &[u8],
-    at: usize,
-    len: &'a [usize; MAX_EVENTS],
-    high: &'a [u64; MAX_EVENTS],
-    low: &'a [u64; MAX_EVENTS],
-    count: usize,
-    hints: &'a [u8; HINTS],
-) -> QuickMove
-    ensures { ReadsQuickly s.now at count «len».now «high».now «low».now result }
+pub fn read_move_quickly(s: &[u8], at: usize, names: &Names) -> Option<QuickMove>
+    ensures { ReadsQuickly s.now at names.now.count names.now.«len» names.now.«high» names.now.«low» result }
 {
-    if s.len() < 40 {
-        return QuickMove::Unknown;
+    if s.len().saturating_sub(at) < 40 {
+        return None;
     }
-    if s.len() - 40 < at {
-        return QuickMove::Unknown;
-    }
-    verified_move(s, at, len, high, low, count, hints)
+    verified_move(s, at, names)
 }

@@ -1,12 +1,11 @@
 -- What is verified of a step line.
-use Rattle.std.specs.Prelude.{◌≡◌, ℕ, ◌+◌, ◌-◌, ◌<◌, ◌≤◌, List, [], slice_index_or}
+use Rattle.std.specs.Prelude.{◌≡◌, ℕ, ◌+◌, ◌-◌, ◌<◌, ◌≤◌, List, [], slice_index_or, Option, IfSome}
 use Rattle.model.specs.Bytes.{bytes, Name, OneEvent}
 use Rattle.model.specs.Reading.{got}
 use Rattle.model.specs.Form.{step, step_line}
 use Rattle.model.proofs.Words.{Spans}
 use Rattle.names.specs.Held.{PackedNames}
 use Rattle.quick_step_line.specs.declared.QuickStep.{QuickStep}
-use Rattle.quick_step_line.specs.declared.QuickStep.TheVariants.{Unknown, Found}
 
 -- a step line stands at a position: from state a by event k, however its name is written, to state b
 pub record ReadsStep (s : List ℕ) (at n count : ℕ) (lens highs lows : List ℕ) (a k b next : ℕ) : Type 0 where
@@ -17,9 +16,8 @@ pub record ReadsStep (s : List ℕ) (at n count : ℕ) (lens highs lows : List �
       → (w : Name) × OneEvent w (slice_index_or es k []) × (step_line s at ≡ got (step a w b) next)
 
 -- an unknown line may be anything
-unfoldable pub ReadsQuickly : List ℕ → ℕ → ℕ → ℕ → List ℕ → List ℕ → List ℕ → QuickStep → Type 0
-ReadsQuickly s at n count lens highs lows Unknown = Unit {0}
-ReadsQuickly s at n count lens highs lows (Found a k b next) = ReadsStep s at n count lens highs lows a k b next
+abbrev pub ReadsQuickly : List ℕ → ℕ → ℕ → ℕ → List ℕ → List ℕ → List ℕ → Option QuickStep → Type 0
+ReadsQuickly s at n count lens highs lows r = IfSome r (λ (q : QuickStep). ReadsStep s at n count lens highs lows q.source q.event q.target q.next)
 
 -- how many bytes there are from one position to another, if they are at most 16; otherwise 0
 pub record NameSize (from to size : ℕ) : Type 0 where

@@ -7,22 +7,18 @@ ghost use Rattle.model.proofs.Words.{Spans};
 ghost use Rattle.quick_step_line.specs.Quick.{ReadsQuickly, NameSize, Framed};
 
 use guess::guess_end;
-use model::MAX_EVENTS;
-use names::{HINTS, hint, is_name_at};
-use quick_words::{figure_at, figure_before, four_bytes, is_byte, pack_name, pack_two};
+use names::Names;
+use quick_words::{figure_at, figure_before, four_bytes, is_byte, pack_name};
 
 mod guess; // where the line ends, by bit tricks
 
-// A step line, verified; or nothing is known of it.
+// A step line, verified: its states, its event and the position after it.
 #[derive(Drop)]
-pub enum QuickStep {
-    Unknown,
-    Found {
-        source: usize,
-        event: usize,
-        target: usize,
-        next: usize,
-    },
+pub struct QuickStep {
+    pub source: usize,
+    pub event: usize,
+    pub target: usize,
+    pub next: usize,
 }
 
 // The bracket and byte 10 stand at a position.
@@ -30,7 +26,7 @@ fn is_end(s: &[u8], at: usize) -> bool
     requires { at + 2 ≤ length s.now }
     ensures { result ≡ true → Spans s.now at (bytes ")\n") (at + 2) }
 {
-    pack_two(s[at], s[at + 1]) == 0x290a
+    u16::from_be_bytes([s[at], s[at + 1]]) == 0x290a
 }
 
 // The six bytes "(step " stand at a position.
@@ -52,71 +48,48 @@ fn is_framed(s: &[u8], at: usize, from: usize, to: usize, end: usize) -> bool
     is_step(s, at) & is_byte(s, from - 1, b' ') & is_byte(s, to, b' ') & is_end(s, end - 1)
 }
 
-// How many bytes there are from one position to another, if they are at most 16; otherwise 0.
+// How many bytes there are from one position to another, if they are at most 16. Otherwise 0, the size of no name, so that the tests fail.
 fn name_size(from: usize, to: usize) -> usize
     requires { from + 16 < 18446744073709551616 }
     ensures { NameSize from to result }
 {
-    let size = std::num::wrapping_sub_usize(to, from);
+    let size = to.wrapping_sub(from);
     if size <= 16 { size } else { 0 }
 }
 
 // The step line at a position with 40 bytes from there on, since words are read past the end of a line.
-fn verified_step<'a>(
-    s: &[u8],
-    at: usize,
-    n: usize,
-    len: &'a [usize; MAX_EVENTS],
-    high: &'a [u64; MAX_EVENTS],
-    low: &'a [u64; MAX_EVENTS],
-    count: usize,
-    hints: &'a [u8; HINTS],
-) -> QuickStep
+fn verified_step(s: &[u8], at: usize, n: usize, names: &Names) -> Option<QuickStep>
     requires { at + 40 ≤ length s.now }
-    ensures { ReadsQuickly s.now at n count «len».now «high».now «low».now result }
+    ensures { ReadsQuickly s.now at n names.now.count names.now.«len» names.now.«high» names.now.«low» result }
 {
     // byte 10 is the 13th byte of the shortest step line, and the 32nd of the longest
     let end = at + 12 + guess_end(s, at + 12);
-    let next = end + 1;
     let a = figure_at(s, at + 6);
     let b = figure_before(s, end - 1);
     let from = at + 7 + a.size;
     let to = end - 2 - b.size;
-    let size = name_size(from, to);
-    let name = pack_name(s, from, size);
-    let k = hint(hints, name.high, name.low);
+    let name = pack_name(s, from, name_size(from, to));
+    let event = names.hint(name);
     let formed = is_framed(s, at, from, to, end) & a.found & b.found;
-    let named = is_name_at(len, high, low, k, size, name.high, name.low);
-    let declared = (a.value < n) & (b.value < n) & (k < count);
+    let named = names.is_at(event, name);
+    let declared = (a.value < n) & (b.value < n) & (event < names.count);
     if formed & named & declared {
-        return QuickStep::Found {
+        return Some(QuickStep {
             source: a.value,
-            event: k,
+            event,
             target: b.value,
-            next,
-        };
+            next: end + 1,
+        });
     }
-    QuickStep::Unknown
+    None
 }
 
 // The step line at a position, if the hints lead to its event and its words are declared.
-pub fn read_step_quickly<'a>(
-    s: &[u8],
-    at: usize,
-    n: usize,
-    len: &'a [usize; MAX_EVENTS],
-    high: &'a [u64; MAX_EVENTS],
-    low: &'a [u64; MAX_EVENTS],
-    count: usize,
-    hints: &'a [u8; HINTS],
-) -> QuickStep
-    ensures { ReadsQuickly s.now at n count «len».now «high».now «low».now result }
+pub fn read_step_quickly(s: &[u8], at: usize, n: usize, names: &Names) -> Option<QuickStep>
+    ensures { ReadsQuickly s.now at n names.now.count names.now.«len» names.now.«high» names.now.«low» result }
 {
-    if s.len() < 40 {
-        return QuickStep::Unknown;
+    if s.len().saturating_sub(at) < 40 {
+        return None;
     }
-    if s.len() - 40 < at {
-        return QuickStep::Unknown;
-    }
-    verified_step(s, at, n, len, high, low, count, hints)
+    verified_step(s, at, n, names)
 }

@@ -3,6 +3,7 @@ use Rattle.std.proofs.Common.{◌≡◌, ℕ, zero, suc, ◌+◌, ◌-◌, ◌*�
 use mathlib.Core.List.Memᴰ
 use lib.ListN.{length-map}
 use lib.Pow.{high}
+use Rattle.std.specs.Int.{from_be_bytes, w32, w64}
 use Rattle.model.specs.Bytes.{lower}
 use Rattle.model.specs.Lists.{every}
 use Rattle.model.specs.Reading.{part}
@@ -72,11 +73,9 @@ module _ (s : List ℕ) where
   head : (k at next : ℕ) → at + 1 ≡ next → at < length s → part s at (suc k) ≡ get_or s at 0 ∷ part s next k
   head k at next e h = rw (drop-cons s at 0 h, ← e, add-one)
 
-  -- the eight bytes at a position, of which h has the first four
-  pub eight : (at h r : ℕ) → at + 8 ≤ length s → h ≡ ((get_or s at 0 * 256 + get_or s (at + 1) 0) * 256 + get_or s (at + 2) 0) * 256 + get_or s (at + 3) 0
-      → r ≡ (((h * 256 + get_or s (at + 4) 0) * 256 + get_or s (at + 5) 0) * 256 + get_or s (at + 6) 0) * 256 + get_or s (at + 7) 0
-      → r ≡ packed (part s at 8)
-  eight at h r b p q =
+  -- the eight bytes at a position
+  pub eight : (at : ℕ) → at + 8 ≤ length s → from_be_bytes w64 (part s at 8) ≡ packed (part s at 8)
+  eight at b =
       rw (
         head 7 at (at + 1) refl (omega arith),
         head 6 (at + 1) (at + 2) (omega arith) (omega arith),
@@ -90,7 +89,8 @@ module _ (s : List ℕ) where
       (omega arith)
 
   -- the four bytes at a position
-  pub four : (at r : ℕ) → at + 4 ≤ length s → r ≡ ((get_or s at 0 * 256 + get_or s (at + 1) 0) * 256 + get_or s (at + 2) 0) * 256 + get_or s (at + 3) 0 → r ≡ packed (part s at 4)
+  pub four : (at r : ℕ) → at + 4 ≤ length s
+      → r ≡ from_be_bytes w32 (get_or s at 0 ∷ get_or s (at + 1) 0 ∷ get_or s (at + 2) 0 ∷ get_or s (at + 3) 0 ∷ []) → r ≡ packed (part s at 4)
   four at r b p =
       rw (
         head 3 at (at + 1) refl (omega arith),
@@ -142,7 +142,7 @@ module _ (s : List ℕ) where
       abbrev w : List ℕ
       w = part s at size
 
-      module _ (f : ℕ) (p : f ≡ min 8 size) where
+      module _ (f : ℕ) (p : f ≡ min size 8) where
         high_part : (size < 8) ⊎ (8 ≤ size) → take 8 w ≡ part s at f
         high_part (inl g) = let e : f ≡ size = omega arith in rw e (take_all 8 w (omega (arith, length-take size (drop at s))))
         high_part (inr g) = let e : f ≡ 8 = omega arith in rw e (take-take 8 size (drop at s) g)

@@ -7,7 +7,7 @@ ghost use Rattle.model.proofs.Words.{Spans};
 ghost use Rattle.lexer.specs.Words.{packed};
 ghost use Rattle.quick_words.specs.Guessed.{SizedFigure, GuessedFigure, Folds, Packs};
 
-use lexer::{byte_word, is_digit};
+use lexer::PackedName;
 
 // This byte stands at a position.
 pub fn is_byte(s: &[u8], at: usize, b: u8) -> bool
@@ -17,73 +17,44 @@ pub fn is_byte(s: &[u8], at: usize, b: u8) -> bool
     s[at] == b
 }
 
-// Bytes as a number in base 256, the first the highest.
-pub fn pack_two(a: u8, b: u8) -> u64
-    ensures { result ≡ a * 256 + b }
-{
-    byte_word(a) * 256 + byte_word(b)
-}
-
-// A number of at most four bytes with four more after it. The compiler makes one load of bytes that stand side by side.
-fn append_four(word: u64, a: u8, b: u8, c: u8, d: u8) -> u64
-    requires { word < 4294967296 }
-    ensures { result ≡ (((word * 256 + a) * 256 + b) * 256 + c) * 256 + d }
-{
-    let five = word * 256 + byte_word(a);
-    let six = five * 256 + byte_word(b);
-    let seven = six * 256 + byte_word(c);
-    seven * 256 + byte_word(d)
-}
-
-fn pack_four(a: u8, b: u8, c: u8, d: u8) -> u64
-    ensures { (result ≡ ((a * 256 + b) * 256 + c) * 256 + d) × (result < 4294967296) }
-{
-    append_four(0, a, b, c, d)
-}
-
-// The four bytes at a position as a number in base 256.
-pub fn four_bytes(s: &[u8], at: usize) -> u64
+// The four bytes at a position as a number in base 256. The compiler makes one load of bytes that stand side by side.
+pub fn four_bytes(s: &[u8], at: usize) -> u32
     requires { at + 4 ≤ length s.now }
     ensures { result ≡ packed (part s.now at 4) }
 {
-    pack_four(s[at], s[at + 1], s[at + 2], s[at + 3])
+    u32::from_be_bytes([s[at], s[at + 1], s[at + 2], s[at + 3]])
+}
+
+// The eight bytes at a position, the first the lowest.
+fn eight_bytes(s: &[u8], at: usize) -> [u8; 8]
+    requires { at + 8 ≤ length s.now }
+    ensures { result ≡ part s.now at 8 }
+{
+    [
+        s[at],
+        s[at + 1],
+        s[at + 2],
+        s[at + 3],
+        s[at + 4],
+        s[at + 5],
+        s[at + 6],
+        s[at + 7],
+    ]
 }
 
 // The eight bytes at a position as a number in base 256.
-pub fn big_endian(s: &[u8], at: usize) -> u64
+fn big_endian(s: &[u8], at: usize) -> u64
     requires { at + 8 ≤ length s.now }
     ensures { result ≡ packed (part s.now at 8) }
 {
-    let high = pack_four(s[at], s[at + 1], s[at + 2], s[at + 3]);
-    append_four(high, s[at + 4], s[at + 5], s[at + 6], s[at + 7])
+    u64::from_be_bytes(eight_bytes(s, at))
 }
 
 // The same with the first byte the lowest.
 pub fn little_endian(s: &[u8], at: usize) -> u64
     requires { at + 8 ≤ length s.now }
 {
-    let high = pack_four(s[at + 7], s[at + 6], s[at + 5], s[at + 4]);
-    append_four(high, s[at + 3], s[at + 2], s[at + 1], s[at])
-}
-
-// How many of a word's bytes, from the lowest on, are 0 below the first bit that is 1.
-fn low_zero_bytes(word: u64) -> usize
-    ensures { result ≤ 8 }
-{
-    (u64::trailing_zeros(word) / 8) as usize
-}
-
-// The bytes of a word in the other order. The compiler makes one instruction of it, and one load of a word that is wanted in both orders.
-fn swap_bytes(word: u64) -> u64 {
-    let low = (word >> 56)
-        | ((word >> 40) & 0xff00)
-        | ((word >> 24) & 0xff_0000)
-        | ((word >> 8) & 0xff00_0000);
-    let high = (word << 56)
-        | ((word << 40) & 0xff_0000_0000_0000)
-        | ((word << 24) & 0xff00_0000_0000)
-        | ((word << 8) & 0xff_0000_0000);
-    low | high
+    u64::from_le_bytes(eight_bytes(s, at))
 }
 
 // How many of a word's bytes, from the lowest on, are guessed to stand before the first below `bound`. Bytes from 128 on may mislead it.
@@ -91,8 +62,8 @@ pub fn count_before(word: u64, bound: u8) -> usize
     ensures { result ≤ 8 }
 {
     // a byte below the bound is the first to borrow
-    let less = std::num::wrapping_sub_u64(word, byte_word(bound) * 0x0101_0101_0101_0101);
-    low_zero_bytes(less & 0x8080_8080_8080_8080)
+    let less = word.wrapping_sub(u64::from(bound) * 0x0101_0101_0101_0101);
+    ((less & 0x8080_8080_8080_8080).trailing_zeros() / 8) as usize
 }
 
 // So many bytes of a word of eight; if these are all, as many more.
@@ -109,8 +80,8 @@ pub fn guess_size(s: &[u8], at: usize) -> usize
     requires { at + 16 ≤ length s.now }
     ensures { result ≤ 16 }
 {
-    let first = count_before(swap_bytes(big_endian(s, at)), b'-');
-    let second = count_before(swap_bytes(big_endian(s, at + 8)), b'-');
+    let first = count_before(big_endian(s, at).swap_bytes(), b'-');
+    let second = count_before(big_endian(s, at + 8).swap_bytes(), b'-');
     and_on(first, second)
 }
 
@@ -124,7 +95,7 @@ fn first_bytes(word: u64, count: usize) -> u64
     word >> half >> half
 }
 
-// A figure that was guessed to have one to three digits.
+// A figure that was guessed to have one to three digits. Not an Option: the words after it are found by its size before anything is tested, so that all tests are one.
 #[derive(Drop)]
 pub struct Figure {
     pub found: bool,
@@ -136,7 +107,7 @@ pub struct Figure {
 fn digit_value(b: u8) -> usize
     ensures { result ≡ b % 16 }
 {
-    (b % 16) as usize
+    usize::from(b % 16)
 }
 
 // The number for one digit, for two or for three.
@@ -156,12 +127,12 @@ fn by_size(two: bool, three: bool, x: usize, y: usize, z: usize) -> usize
 fn sized_figure(a: u8, b: u8, c: u8, x: usize, y: usize, z: usize) -> Figure
     ensures { SizedFigure a b c x y z result }
 {
-    let two = is_digit(b);
-    let three = two & is_digit(c);
+    let two = b.is_ascii_digit();
+    let three = two & c.is_ascii_digit();
     let value = by_size(two, three, x, y, z);
     let least = by_size(two, three, 0, 10, 100);
     Figure {
-        found: is_digit(a) & (least <= value),
+        found: a.is_ascii_digit() & (least <= value),
         value,
         size: by_size(two, three, 1, 2, 3),
     }
@@ -215,26 +186,16 @@ fn fold_case(word: u64) -> u64
     word | ((word >> 1) & 0x2020_2020_2020_2020)
 }
 
-// The bytes of a name in small letters as two numbers.
-#[derive(Drop)]
-pub struct NameNumbers {
-    pub high: u64,
-    pub low: u64,
-}
-
-fn at_most_eight(size: usize) -> usize
-    ensures { result ≡ min 8 size }
-{
-    if size < 8 { size } else { 8 }
-}
-
-// The bytes at a position, at most 16, as the numbers of a name. Whole words are folded, so that folding does not wait for the size.
-pub fn pack_name(s: &[u8], at: usize, size: usize) -> NameNumbers
+// The bytes at a position, at most 16, as a name. Whole words are folded, so that folding does not wait for the size.
+pub fn pack_name(s: &[u8], at: usize, size: usize) -> PackedName
     requires { (at + 16 ≤ length s.now) × (size ≤ 16) }
-    ensures { Packs s.now at size result.«high» result.«low» }
+    ensures len_value { result.«len» ≡ size }
+    ensures packs { Packs s.now at size result.«high» result.«low» }
 {
-    let first = at_most_eight(size);
-    let high = first_bytes(fold_case(big_endian(s, at)), first);
-    let low = first_bytes(fold_case(big_endian(s, at + 8)), size - first);
-    NameNumbers { high, low }
+    let first = size.min(8);
+    PackedName {
+        len: size,
+        high: first_bytes(fold_case(big_endian(s, at)), first),
+        low: first_bytes(fold_case(big_endian(s, at + 8)), size - first),
+    }
 }

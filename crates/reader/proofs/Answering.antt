@@ -3,7 +3,7 @@ use Prim.Native.Nat.{ℕ, zero, suc, ◌+◌}
 use native.Mathlib.Omega.{arith}
 use mathlib.Core.Path.{◌≡◌, refl, ap, sym, subst, ◌∙◌}
 use mathlib.Core.List.{List, [], ◌∷◌, ◌++◌, map, flat_map}
-use mathlib.Core.Option.{Option, some}
+use mathlib.Core.Option.{Option}
 use lib.ListN.{length, take, length-append, length-map}
 use Rattle.model.specs.Refusal.{Refusal, Checked, refused, passed, refusal_of}
 use Rattle.model.specs.TransitionSystem.{Transition}
@@ -15,9 +15,9 @@ use Rattle.model.proofs.ListLaws.{map_map}
 use Rattle.model.proofs.Values.{Named, lines, numbered, input, value_of_lines}
 use Rattle.rows.specs.Rows.{row, tabulate, place_row, or_no_state}
 use Rattle.lines.specs.Lines.{spots, names_from, duplicate_mark}
-use Rattle.names.specs.Held.{PackedNames}
-use Rattle.rows.specs.declared.Verdict.{Verdict}
-use Rattle.rows.specs.declared.Verdict.TheVariants.{Passed}
+use Rattle.model.specs.declared.Refusal as D
+use Rattle.model.specs.Cases.{tabled}
+use Rattle.std.specs.Prelude.{Result, Ok, Err}
 use Rattle.rows.specs.declared.Counts.{Counts}
 use Rattle.rows.specs.declared.Tables.{Tables}
 use Rattle.rows.specs.Tables.{verdict_refusal, tables_of, tables_in, no_counts}
@@ -103,25 +103,25 @@ passed_same : {v w : Input} → passed v ≡ passed w → v ≡ w
 passed_same e = cc
 
 -- the code's answer to a refusal
-pub rows_refused : {s : List ℕ} {q : Refusal} {c : Checked Input} {v : Verdict} {k : Counts} {p : Tables} → c ≡ refused q → verdict_refusal v ≡ some q → k ≡ no_counts
-    → AnswersRows s c v k p
-rows_refused e v k = record { verdict = rw e v; rows = λ x w. apart e w; none = λ _ _. k }
+pub rows_refused : {s : List ℕ} {c : Checked Input} {why : D.Refusal} {k : Counts} {p : Tables} → c ≡ refused (tabled why) → k ≡ no_counts → AnswersRows s c (Err why) k p
+unfolding verdict_refusal
+rows_refused e k = record { verdict = rw e refl; rows = λ x w. apart e w; none = λ _ _. k }
 
 -- its answer where all lines are read into rows in which nothing was stored
-module _ {s : List ℕ} {c : Checked Input} {n i : ℕ} {es : List Name} {count k j : ℕ} {ats lens highs lows : List ℕ} {before steps : TransitionRows}
-    {unread machines : MachineRows} where
-  pub rows_passed : (o : Option ℕ) (ts : List Named) (ms : List Machine) → start_of o ≡ i → PackedNames es count lens highs lows → ats ≡ row 64 0 (spots (names_from (line_two s)) es)
-      → before ≡ no_steps → unread ≡ no_machines → c ≡ passed (value_of (lines n o es ts ms)) → k ≡ length ts → steps ≡ with_steps es before ts → j ≡ length ms
-      → machines ≡ with_machines n unread ms → AnswersRows s c Passed (counts n i count k j) (joined (counts n i count k j) ats lens steps machines)
+module _ {s : List ℕ} {c : Checked Input} {n i : ℕ} {count k j : ℕ} {ats lens : List ℕ} {before steps : TransitionRows} {unread machines : MachineRows} where
+  pub rows_passed : (o : Option ℕ) (es : List Name) (ts : List Named) (ms : List Machine) → start_of o ≡ i → count ≡ length es → lens ≡ row 64 0 (map length es)
+      → ats ≡ row 64 0 (spots (names_from (line_two s)) es) → before ≡ no_steps → unread ≡ no_machines → c ≡ passed (value_of (lines n o es ts ms)) → k ≡ length ts
+      → steps ≡ with_steps es before ts → j ≡ length ms → machines ≡ with_machines n unread ms
+      → AnswersRows s c (Ok tt) (counts n i count k j) (joined (counts n i count k j) ats lens steps machines)
   unfolding verdict_refusal
-  rows_passed o ts ms z r a f g w p q x u =
+  rows_passed o es ts ms z r l a f g w p q x u =
       record {
-        verdict = rw w;
-        rows = λ y e. rw (a, ← z, r.counted, r.lengths, p, q, f, x, u, g) (sym (tabled_value s n o es ts ms) ∙ ap (tables_of s) (passed_same (sym w ∙ e)));
+        verdict = rw w refl;
+        rows = λ y e. rw (a, ← z, r, l, p, q, f, x, u, g) (sym (tabled_value s n o es ts ms) ∙ ap (tables_of s) (passed_same (sym w ∙ e)));
         none = λ q e. apart e w;
       }
 
-module _ (s : List ℕ) {w : Verdict} {k : Counts} {ats lens sources events targets sizes duplicates places : List ℕ} where
+module _ (s : List ℕ) {w : Result (Unit {0}) D.Refusal} {k : Counts} {ats lens sources events targets sizes duplicates places : List ℕ} where
   pub answering_rows : AnswersRows s (read s) w k (tables_in k ats lens sources events targets sizes duplicates places)
       → (verdict_refusal w ≡ refusal_of (read s)) × ReadsRows s k ats lens sources events targets sizes duplicates places
   answering_rows a = (a.verdict, record { tables = a.rows; told = λ v e. subst (Told s v) (sym (a.rows v e)) (told s v e); none = a.none })

@@ -3,16 +3,14 @@ use Prim.Native.Nat.{ℕ, suc, ◌+◌, ◌<◌, ◌≤◌}
 use native.Mathlib.Omega.{arith}
 use mathlib.Core.Path.{◌≡◌, refl, ap, sym, ◌∙◌, subst}
 use mathlib.Core.Logic.{◌⊎◌, inl, inr}
-use mathlib.Core.Bool.{Bool, true, false, not, ◌&&◌, and-false}
+use mathlib.Core.Bool.{Bool, true, false, not, ◌&&◌, and-false, and-eq-true_iff}
 use mathlib.Core.List.{List, [], ◌∷◌, ◌++◌, map, append_assoc, append-nil}
 use mathlib.Core.Option.{Option}
 use lib.Dec.{T, leb, ltb}
-use borrow.Author.Tests.{le-leb, lt-leb}
+use borrow.Author.Tests.{le-leb, lt-leb, leb-true}
 use lib.ListN.{length, drop, length-append, length-map}
 use Rattle.model.specs.Lists.{exists, index, count}
 use Rattle.model.specs.Refusal.{refuse, Checked, refused, passed}
-use Rattle.model.specs.declared.Refusal as D
-use Rattle.model.specs.Cases.{tabled}
 use Rattle.model.specs.Machine.{Place, Machine}
 use Rattle.model.specs.Bytes.{Name, same_name}
 use Rattle.model.specs.Reading.{fail, got}
@@ -27,15 +25,9 @@ use Rattle.model.proofs.Values.{Named, lines}
 use Rattle.model.proofs.Lines.{line_sound}
 use Rattle.model.proofs.LineEnds.{line_two_lem}
 use Rattle.lines.specs.Lines.{EventRows, all_below}
+use Rattle.lines.specs.declared.StatesLine.{StatesLine}
 use Rattle.lines.proofs.Found.{GotStates}
-use Rattle.reader.specs.declared.first_lines.States.{States}
-use Rattle.reader.specs.declared.first_lines.States.TheVariants as S
-use Rattle.reader.specs.declared.first_lines.Declared.{Declared}
-use Rattle.reader.specs.declared.first_lines.FirstLines.{FirstLines}
-use Rattle.reader.specs.declared.first_lines.FirstLines.TheVariants as F
-use Rattle.reader.specs.declared.Section.{Section}
-use Rattle.reader.specs.declared.Section.TheVariants.{Refused, Read}
-use Rattle.reader.specs.Sections.{Rest, begun, StatesFound, StatesRead, EventsFound, EventsRead, FirstFound, FirstRead}
+use Rattle.reader.specs.Sections.{Rest, begun, StatesFound, EventsFound, FirstFound}
 use Rattle.reader.proofs.Rest.{rest_start, rest_end, rest_fail, rest_none, rest_limit, rest_undeclared, rest_more}
 
 -- a test that agrees with an order
@@ -63,27 +55,39 @@ module _ (s : List ℕ) where
   unfolding line_after
   states_fail e h = rest_none (rest_start s h) (omega arith) e
 
-  module _ {n k next : ℕ} (g : GotStates (states_line s 0) n k next) where
-    pub states_next : next ≡ line_two s
+  module _ {w : StatesLine} (g : GotStates (states_line s 0) w) where
+    pub states_next : w.next ≡ line_two s
     unfolding line_after
     states_next =
-        let l = line_sound [] s 0 (states n g.start) next (omega arith) g.read in
-        omega (arith, l.moved, ap line_two l.bytes, line_two_lem n g.start l.formed.0 l.formed.1 (drop next s))
+        let l = line_sound [] s 0 (states w.count g.start) w.next (omega arith) g.read in
+        omega (arith, l.moved, ap line_two l.bytes, line_two_lem w.count g.start l.formed.0 l.formed.1 (drop w.next s))
 
     -- the text is short enough
     module _ (h : length s ≤ 32768) where
-      pub states_limit : (leb 1 n && leb n 256) ≡ false → read s ≡ refused (refuse 2 1 0)
+      pub states_limit : (leb 1 w.count && leb w.count 256) ≡ false → read s ≡ refused (refuse 2 1 0)
       unfolding line_after in_limit
-      states_limit w = rest_limit (rest_start s h) g.read w
+      states_limit t = rest_limit (rest_start s h) g.read t
 
-      module _ (w : (leb 1 n && leb n 256) ≡ true) where
-        pub start_undeclared : n ≤ k → read s ≡ refused (refuse 3 1 0)
+      module _ (t : (leb 1 w.count && leb w.count 256) ≡ true) where
+        pub start_undeclared : w.count ≤ w.start → read s ≡ refused (refuse 3 1 0)
         unfolding line_after in_limit is_declared
-        start_undeclared u = rest_undeclared (rest_start s h) g.read w (lt-leb (suc (start_of g.start)) n (omega (arith, g.initial)))
+        start_undeclared u = rest_undeclared (rest_start s h) g.read t (lt-leb (suc (start_of g.start)) w.count (omega (arith, g.initial)))
 
-        pub states_more : k < n → Rest s (states n g.start ∷ []) next (read s)
+        states_more : w.start < w.count → Rest s (states w.count g.start ∷ []) w.next (read s)
         unfolding line_after in_limit is_declared
-        states_more u = rest_more (rest_start s h) g.read w (le-leb (suc (start_of g.start)) n (omega (arith, g.initial)))
+        states_more u = rest_more (rest_start s h) g.read t (le-leb (suc (start_of g.start)) w.count (omega (arith, g.initial)))
+
+        -- the line is read
+        pub states_found : w.start < w.count → StatesFound s w.count w.start w.next
+        states_found u =
+            record {
+              few = leb-true w.count 256 ((and-eq-true_iff (leb 1 w.count) (leb w.count 256)).0 t).1;
+              start = g.start;
+              initial = g.initial;
+              line = g.read;
+              ends = states_next;
+              rest = states_more u;
+            }
 
 -- ---- the events
 
@@ -106,29 +110,11 @@ module _ {s : List ℕ} {n at : ℕ} {o : Option ℕ} {c : Checked Input} (r : R
       unfolding line_after in_limit is_declared
       events_more d = rest_more r g (le-leb (length es) 64 k) d
 
--- ---- the first two lines, from the code's answers
-
-pub states_found : {s : List ℕ} {n k next : ℕ} {r : States} → r ≡ S.Read n k next → StatesRead s r → StatesFound s n k next
-unfolding StatesRead
-states_found q h = rw q at h
-
-pub states_refused : (s : List ℕ) {why : D.Refusal} {r : States} → r ≡ S.Refused why → StatesRead s r → read s ≡ refused (tabled why)
-unfolding StatesRead
-states_refused s q h = rw q at h
-
-pub events_found : {s : List ℕ} {at n k next : ℕ} {o : Option ℕ} {c : Checked Input} {after : EventRows} {r : Section} → r ≡ Read k next
-    → EventsRead s at n o c r after → EventsFound s at n o c k next after
-unfolding EventsRead
-events_found q h = rw q at h
-
-pub events_refused : (s : List ℕ) (at n : ℕ) (o : Option ℕ) (after : EventRows) {c : Checked Input} {why : D.Refusal} {r : Section} → r ≡ Refused why
-    → EventsRead s at n o c r after → c ≡ refused (tabled why)
-unfolding EventsRead
-events_refused s at n o after q h = rw q at h
+-- ---- the first two lines
 
 -- both are read; the second begins where the first ends
 pub first_found : {s : List ℕ} {at n i k next : ℕ} {after : EventRows} (f : StatesFound s n i at) → EventsFound s at n f.start (read s) k next after
-    → FirstFound s (record { states = n; initial = i; events = k; next = next }) after
+    → FirstFound s (record { states = n; initial = i; next = next }) k after
 first_found {s} {n = n} {k = k} {next} {after} f e =
     record {
       few = f.few;
@@ -136,10 +122,6 @@ first_found {s} {n = n} {k = k} {next} {after} f e =
       initial = f.initial;
       found = subst (λ (x : ℕ). EventsFound s x n f.start (read s) k next after) f.ends e;
     }
-
-pub first_read : {s : List ℕ} {d : Declared} {after : EventRows} {r : FirstLines} → r ≡ F.Read d → FirstRead s r after → FirstFound s d after
-unfolding FirstRead
-first_read q h = rw q at h
 
 -- ---- the lines read so far, counted
 

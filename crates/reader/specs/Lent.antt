@@ -1,23 +1,13 @@
--- The rows that a caller lends: what they hold before a text is read into them, and after.
-use Rattle.std.specs.Prelude.{ℕ, ◌≡◌, List, replicate}
+-- The rows that a caller lends: what they hold after a text is read into them. Before, they are fresh.
+use Rattle.std.specs.Prelude.{ℕ, ◌≡◌, List, Result}
+use Rattle.model.specs.declared.Refusal as D
 use Rattle.model.specs.Refusal.{Refusal, Checked, refused, passed, refusal_of}
 use Rattle.model.specs.Text.{Input, read}
-use Rattle.rows.specs.declared.Verdict.{Verdict}
 use Rattle.rows.specs.declared.Counts.{Counts}
 use Rattle.rows.specs.declared.Tables.{Tables}
 use Rattle.rows.specs.Tables.{verdict_refusal, tables_of, tables_in, no_counts}
+pub use Rattle.rows.specs.Tables.{FreshRows}
 use Rattle.rows.specs.Told.{Told}
-
--- each entry is that of one that is not in use
-pub record FreshRows (ats lens sources events targets sizes duplicates places : List ℕ) : Type 0 where
-  pub fresh_name_at : ats ≡ replicate 64 0
-  pub fresh_name_len : lens ≡ replicate 64 0
-  pub fresh_source : sources ≡ replicate 1024 0
-  pub fresh_event : events ≡ replicate 1024 0
-  pub fresh_target : targets ≡ replicate 1024 0
-  pub fresh_sizes : sizes ≡ replicate 16 0
-  pub fresh_duplicate : duplicates ≡ replicate 16 256
-  pub fresh_place : places ≡ replicate 4096 255
 
 -- the counts and the rows of a text: passed, its tables, which tell its value; refused, counts of 0, and rows of which nothing is said
 pub record ReadsRows (s : List ℕ) (c : Counts) (ats lens sources events targets sizes duplicates places : List ℕ) : Type 0 where
@@ -25,8 +15,8 @@ pub record ReadsRows (s : List ℕ) (c : Counts) (ats lens sources events target
   pub told : (v : Input) → read s ≡ passed v → Told s v (tables_in c ats lens sources events targets sizes duplicates places)
   pub none : (q : Refusal) → read s ≡ refused q → c ≡ no_counts
 
--- the same of lines that come to c, with their verdict
-pub record AnswersRows (s : List ℕ) (c : Checked Input) (v : Verdict) (k : Counts) (p : Tables) : Type 0 where
+-- the same of lines that come to c, with the code's answer
+pub record AnswersRows (s : List ℕ) (c : Checked Input) (v : Result (Unit {0}) D.Refusal) (k : Counts) (p : Tables) : Type 0 where
   pub verdict : verdict_refusal v ≡ refusal_of c
   pub rows : (x : Input) → c ≡ passed x → p ≡ tables_of s x
   pub none : (q : Refusal) → c ≡ refused q → k ≡ no_counts

@@ -1,5 +1,6 @@
 -- What the inner functions promise of the lines read so far.
-use Rattle.std.specs.Prelude.{ℕ, ◌+◌, ◌<◌, ◌≤◌, ◌≡◌, true, length, replicate}
+use Rattle.std.specs.Prelude.{ℕ, ◌+◌, ◌<◌, ◌≤◌, ◌≡◌, true, length, replicate, Result, Ok, Err}
+use Rattle.std.specs.Prelude as Std
 use mathlib.Core.List.{List, [], ◌∷◌, map, flat_map}
 use Rattle.std.proofs.Math.Option.{Option}
 use Rattle.std.proofs.lemmas.List.Edits.{sets}
@@ -17,18 +18,12 @@ use Rattle.lines.specs.Lines.{spots, duplicate_mark, EventRows, event_rows, name
 use Rattle.names.specs.Held.{PackedNames}
 use Rattle.rows.specs.declared.Counts.{Counts}
 use Rattle.rows.specs.declared.Tables.{Tables}
-use Rattle.rows.specs.declared.Counted.{Counted}
+use Rattle.names.specs.declared.Names.{Names}
+use Rattle.quick_step_line.specs.declared.QuickStep.{QuickStep}
 use Rattle.reader.specs.declared.first_lines.States.{States}
-use Rattle.reader.specs.declared.first_lines.States.TheVariants as S
 use Rattle.reader.specs.declared.first_lines.Declared.{Declared}
-use Rattle.reader.specs.declared.first_lines.FirstLines.{FirstLines}
-use Rattle.reader.specs.declared.first_lines.FirstLines.TheVariants as F
-use Rattle.reader.specs.declared.step_lines.StepAt.{StepAt}
-use Rattle.reader.specs.declared.step_lines.StepAt.TheVariants as A
-use Rattle.reader.specs.declared.Section.{Section}
-use Rattle.reader.specs.declared.Section.TheVariants.{Refused, Read}
+use Rattle.reader.specs.declared.step_lines.Section.{Section}
 use Rattle.rows.specs.Tables.{tables_in}
-use Rattle.reader.specs.Lent.{AnswersRows}
 
 -- the rows hold these names, and none stands twice
 pub record DistinctRows (es : List Name) (count : ℕ) (lens highs lows : List ℕ) : Type 0 where
@@ -59,6 +54,13 @@ pub record TransitionRows : Type 0 where
 abbrev pub transition_rows : List ℕ → List ℕ → List ℕ → TransitionRows
 transition_rows a b c = record { source = a; event = b; target = c }
 
+abbrev pub rows_of_steps : Tables → TransitionRows
+rows_of_steps p = transition_rows p.source p.event p.target
+
+-- the same tables with other rows of steps
+abbrev pub with_step_rows : Tables → TransitionRows → Tables
+with_step_rows p r = tables_in p.counts p.name_at p.name_len r.source r.event r.target p.sizes p.duplicate p.place
+
 unfoldable pub with_steps : List Name → TransitionRows → List Named → TransitionRows
 with_steps es r ts =
     record {
@@ -82,10 +84,11 @@ pub record StepRefused (s : List ℕ) (at n count : ℕ) (lens highs lows : List
   pub stops : (o : Option ℕ) (es : List Name) (ts : List Named) (c : Checked Input) → DistinctRows es count lens highs lows → k ≡ length ts → Rest s (begun n o es ts) at c
       → c ≡ refused (tabled why)
 
-unfoldable pub StepRead : List ℕ → ℕ → ℕ → ℕ → List ℕ → List ℕ → List ℕ → ℕ → StepAt → Type 0
-StepRead s at n count lens highs lows k A.Missing = step_line s at ≡ fail
-StepRead s at n count lens highs lows k (A.Refused why) = StepRefused s at n count lens highs lows k why
-StepRead s at n count lens highs lows k (A.Found a e b next) = StepFound s at n count lens highs lows k a e b next
+-- the answer to a step line: none stands there, it is read, or it is refused
+abbrev pub StepRead : List ℕ → ℕ → ℕ → ℕ → List ℕ → List ℕ → List ℕ → ℕ → Result (Std.Option QuickStep) D.Refusal → Type 0
+StepRead s at n count lens highs lows k (Ok Std.None) = step_line s at ≡ fail
+StepRead s at n count lens highs lows k (Ok (Std.Some q)) = StepFound s at n count lens highs lows k q.source q.event q.target q.next
+StepRead s at n count lens highs lows k (Err why) = StepRefused s at n count lens highs lows k why
 
 -- the states line is read, within the limits, and its start is a state
 pub record StatesFound (s : List ℕ) (n k next : ℕ) : Type 0 where
@@ -96,9 +99,13 @@ pub record StatesFound (s : List ℕ) (n k next : ℕ) : Type 0 where
   pub ends : next ≡ line_two s
   pub rest : Rest s (states n start ∷ []) next (read s)
 
-unfoldable pub StatesRead : List ℕ → States → Type 0
-StatesRead s (S.Refused why) = read s ≡ refused (tabled why)
-StatesRead s (S.Read n k next) = StatesFound s n k next
+abbrev pub StatesRead : List ℕ → Result States D.Refusal → Type 0
+StatesRead s (Err why) = read s ≡ refused (tabled why)
+StatesRead s (Ok r) = StatesFound s r.count r.initial r.next
+
+-- the rows of names, of which their positions stand apart
+abbrev pub rows_of_events : List ℕ → Names → EventRows
+rows_of_events ats names = event_rows ats names.«len» names.high names.low
 
 -- the rows before an events line is read
 abbrev pub no_names : EventRows
@@ -111,29 +118,28 @@ pub record EventsFound (s : List ℕ) (at n : ℕ) (o : Option ℕ) (c : Checked
   pub placed : after.placed ≡ row 64 0 (spots (names_from at) names)
   pub rest : Rest s (begun n o names []) next c
 
-unfoldable pub EventsRead : List ℕ → ℕ → ℕ → Option ℕ → Checked Input → Section → EventRows → Type 0
-EventsRead s at n o c (Refused why) after = c ≡ refused (tabled why)
-EventsRead s at n o c (Read k next) after = EventsFound s at n o c k next after
+abbrev pub EventsRead : List ℕ → ℕ → ℕ → Option ℕ → Checked Input → Result ℕ D.Refusal → ℕ → EventRows → Type 0
+EventsRead s at n o c (Err why) k after = c ≡ refused (tabled why)
+EventsRead s at n o c (Ok next) k after = EventsFound s at n o c k next after
 
--- an events line at a position, after n states
-unfoldable pub ReadsEvents : List ℕ → ℕ → Section → EventRows → Type 0
-ReadsEvents s at r after = (n : ℕ) (o : Option ℕ) (c : Checked Input) → Rest s (states n o ∷ []) at c → EventsRead s at n o c r after
+-- an events line at a position, after n states: how many names there are then, and their rows
+abbrev pub ReadsEvents : List ℕ → ℕ → Result ℕ D.Refusal → ℕ → EventRows → Type 0
+ReadsEvents s at r k after = (n : ℕ) (o : Option ℕ) (c : Checked Input) → Rest s (states n o ∷ []) at c → EventsRead s at n o c r k after
 
 -- the first two lines are read
-pub record FirstFound (s : List ℕ) (d : Declared) (after : EventRows) : Type 0 where
+pub record FirstFound (s : List ℕ) (d : Declared) (k : ℕ) (after : EventRows) : Type 0 where
   pub few : d.states ≤ 256
   pub start : Option ℕ
   pub initial : start_of start ≡ d.initial
-  pub found : EventsFound s (line_two s) d.states start (read s) d.events d.next after
+  pub found : EventsFound s (line_two s) d.states start (read s) k d.next after
 
-unfoldable pub FirstRead : List ℕ → FirstLines → EventRows → Type 0
-FirstRead s (F.Refused why) after = read s ≡ refused (tabled why)
-FirstRead s (F.Read d) after = FirstFound s d after
+abbrev pub FirstRead : List ℕ → Result Declared D.Refusal → ℕ → EventRows → Type 0
+FirstRead s (Err why) k after = read s ≡ refused (tabled why)
+FirstRead s (Ok d) k after = FirstFound s d k after
 
--- how many lines were read
-unfoldable pub count_of : Section → ℕ
-count_of (Refused why) = 0
-count_of (Read k next) = k
+-- the same tables with other rows of names
+abbrev pub with_name_rows : Tables → List ℕ → List ℕ → Tables
+with_name_rows p ats lens = tables_in p.counts ats lens p.source p.event p.target p.sizes p.duplicate p.place
 
 -- step lines are read into rows, and no step line stands next
 pub record StepsFound (s : List ℕ) (n : ℕ) (o : Option ℕ) (es : List Name) (c : Checked Input) (k next : ℕ) (before after : TransitionRows) : Type 0 where
@@ -143,12 +149,12 @@ pub record StepsFound (s : List ℕ) (n : ℕ) (o : Option ℕ) (es : List Name)
   pub counted : k ≡ length steps
   pub rows : after ≡ with_steps es before steps
 
-unfoldable pub StepsRead : List ℕ → ℕ → Option ℕ → List Name → Checked Input → Section → TransitionRows → TransitionRows → Type 0
-StepsRead s n o es c (Refused why) before after = c ≡ refused (tabled why)
-StepsRead s n o es c (Read k next) before after = StepsFound s n o es c k next before after
+abbrev pub StepsRead : List ℕ → ℕ → Option ℕ → List Name → Checked Input → Result Section D.Refusal → TransitionRows → TransitionRows → Type 0
+StepsRead s n o es c (Err why) before after = c ≡ refused (tabled why)
+StepsRead s n o es c (Ok r) before after = StepsFound s n o es c r.count r.next before after
 
 -- step lines at a position, after n states and the names in the rows
-unfoldable pub ReadsSteps : List ℕ → ℕ → ℕ → ℕ → List ℕ → List ℕ → List ℕ → Section → TransitionRows → TransitionRows → Type 0
+abbrev pub ReadsSteps : List ℕ → ℕ → ℕ → ℕ → List ℕ → List ℕ → List ℕ → Result Section D.Refusal → TransitionRows → TransitionRows → Type 0
 ReadsSteps s at n count lens highs lows r before after =
     (o : Option ℕ) (es : List Name) (c : Checked Input) → DistinctRows es count lens highs lows → Rest s (begun n o es []) at c → StepsRead s n o es c r before after
 
@@ -159,6 +165,13 @@ pub record MachineRows : Type 0 where
 
 abbrev pub machine_rows : List ℕ → List ℕ → List ℕ → MachineRows
 machine_rows a b c = record { sizes = a; duplicate = b; places = c }
+
+abbrev pub rows_of_machines : Tables → MachineRows
+rows_of_machines p = machine_rows p.sizes p.duplicate p.place
+
+-- the same tables with other rows of machines
+abbrev pub with_machine_rows : Tables → MachineRows → Tables
+with_machine_rows p r = tables_in p.counts p.name_at p.name_len p.source p.event p.target r.sizes r.duplicate r.places
 
 unfoldable pub with_machines : ℕ → MachineRows → List Machine → MachineRows
 with_machines n r ms =
@@ -175,12 +188,12 @@ pub record MachinesFound (n : ℕ) (o : Option ℕ) (es : List Name) (ts : List 
   pub counted : k ≡ length machines
   pub rows : after ≡ with_machines n before machines
 
-unfoldable pub MachinesRead : ℕ → Option ℕ → List Name → List Named → Checked Input → Section → MachineRows → MachineRows → Type 0
-MachinesRead n o es ts c (Refused why) before after = c ≡ refused (tabled why)
-MachinesRead n o es ts c (Read k next) before after = MachinesFound n o es ts c k before after
+abbrev pub MachinesRead : ℕ → Option ℕ → List Name → List Named → Checked Input → Result ℕ D.Refusal → MachineRows → MachineRows → Type 0
+MachinesRead n o es ts c (Err why) before after = c ≡ refused (tabled why)
+MachinesRead n o es ts c (Ok k) before after = MachinesFound n o es ts c k before after
 
 -- machine lines at a position, after n states, events and steps
-unfoldable pub ReadsMachines : List ℕ → ℕ → ℕ → ℕ → Section → MachineRows → MachineRows → Type 0
+abbrev pub ReadsMachines : List ℕ → ℕ → ℕ → ℕ → Result ℕ D.Refusal → MachineRows → MachineRows → Type 0
 ReadsMachines s at n line r before after =
     (o : Option ℕ) (es : List Name) (ts : List Named) (c : Checked Input) → line ≡ 3 + length ts → step_line s at ≡ fail → Rest s (begun n o es ts) at c
     → MachinesRead n o es ts c r before after
@@ -201,10 +214,3 @@ joined c ats lens steps machines =
 -- the counts that are answered
 abbrev pub counts : ℕ → ℕ → ℕ → ℕ → ℕ → Counts
 counts n initial events transitions machines = record { states = n; initial = initial; events = events; transitions = transitions; machines = machines }
-
--- the answer to a text whose first two lines are read, with the row of the names' positions
-unfoldable pub ReadsLines : List ℕ → Declared → List ℕ → List ℕ → List ℕ → Counted → TransitionRows → MachineRows → Type 0
-ReadsLines s d lens highs lows r steps machines =
-    (o : Option ℕ) (es : List Name) (c : Checked Input) (ats : List ℕ) → start_of o ≡ d.initial → DistinctRows es d.events lens highs lows
-    → ats ≡ row 64 0 (spots (names_from (line_two s)) es) → Rest s (begun d.states o es []) d.next c
-    → AnswersRows s c r.verdict r.counts (joined r.counts ats lens steps machines)

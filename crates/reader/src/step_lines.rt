@@ -1,146 +1,93 @@
 // The step lines, each against the states and events that the first two lines declare.
-ghost use Rattle.std.specs.Prelude.{◌≡◌, ◌&&◌, ◌<◌, ◌≤◌, ltb};
-ghost use Rattle.reader.specs.Sections.{Declares, StepRead, count_of, ReadsSteps, transition_rows};
+ghost use Rattle.std.specs.Prelude.{◌≡◌, ◌≤◌, IfOk};
+ghost use Rattle.reader.specs.Sections.{Declares, StepRead, ReadsSteps, rows_of_steps, with_step_rows};
 
-use crate::Section;
-use lines::{StepLine, read_step};
-use model::{MAX_EVENTS, MAX_TRANSITIONS, Refusal};
-use names::{HINTS, fill_hints, find_name};
+use lines::read_step;
+use model::{MAX_TRANSITIONS, Refusal};
+use names::Names;
 use quick_step_line::{QuickStep, read_step_quickly};
-use rows::narrow;
+use rows::Tables;
 
-// States a and b are below n, and event e below m.
-fn all_declared(a: usize, b: usize, n: usize, e: usize, m: usize) -> bool
-    ensures { result ≡ (ltb a n && (ltb e m && ltb b n)) }
-{
-    if a < n {
-        if e < m {
-            return b < n;
-        }
-    }
-    false
-}
-
-// The step line at a position: none, its refusal, or its numbers and the position after it.
-#[derive(Drop)]
-enum StepAt {
-    Missing,
-    Refused(Refusal),
-    Found {
-        source: usize,
-        event: usize,
-        target: usize,
-        next: usize,
-    },
-}
-
-// The step line at a position, after k others, against n states and the names in the rows. It is read word by word.
-fn read_words<'a>(
+// The step line at a position, after k others, against n states and the names: none, its refusal, or its numbers. It is read word by word.
+fn read_words(
     s: &[u8],
     at: usize,
     n: usize,
-    len: &'a [usize; MAX_EVENTS],
-    high: &'a [u64; MAX_EVENTS],
-    low: &'a [u64; MAX_EVENTS],
-    count: usize,
+    names: &Names,
     k: usize,
-) -> StepAt
-    requires { (count ≤ 64) × (k ≤ 1024) }
-    ensures { StepRead s.now at n count «len».now «high».now «low».now k result }
+) -> Result<Option<QuickStep>, Refusal>
+    requires { (names.now.count ≤ 64) × (k ≤ 1024) }
+    ensures { StepRead s.now at n names.now.count names.now.«len» names.now.«high» names.now.«low» k result }
 {
-    let StepLine::Found(step) = read_step(s, at) else {
-        return StepAt::Missing;
+    let Some(step) = read_step(s, at) else {
+        return Ok(None);
     };
     let line = 3 + k;
     if MAX_TRANSITIONS <= k {
-        return StepAt::Refused(Refusal::LimitExceeded { line }); // 2 oversize
+        return Err(Refusal::LimitExceeded { line }); // 2 oversize
     }
-    let source = step.source;
-    let target = step.target;
-    let event = find_name(len, high, low, count, step.len, step.high, step.low);
-    if !all_declared(source, target, n, event, count) {
-        return StepAt::Refused(Refusal::Undeclared { line }); // 3 stranger
+    let Some(event) = names.find(step.name) else {
+        return Err(Refusal::Undeclared { line }); // 3 stranger
+    };
+    if n <= step.source || n <= step.target {
+        return Err(Refusal::Undeclared { line }); // 3 stranger
     }
-    StepAt::Found {
-        source,
+    Ok(Some(QuickStep {
+        source: step.source,
         event,
-        target,
+        target: step.target,
         next: step.next,
-    }
+    }))
 }
 
 // The same line, by words only where it is not read quickly.
-fn step_at<'a>(
+fn step_at(
     s: &[u8],
     at: usize,
     n: usize,
-    len: &'a [usize; MAX_EVENTS],
-    high: &'a [u64; MAX_EVENTS],
-    low: &'a [u64; MAX_EVENTS],
-    count: usize,
-    hints: &'a [u8; HINTS],
+    names: &Names,
     k: usize,
-) -> StepAt
-    requires { (count ≤ 64) × (k ≤ 1024) × Declares count «len».now «high».now «low».now }
-    ensures { StepRead s.now at n count «len».now «high».now «low».now k result }
+) -> Result<Option<QuickStep>, Refusal>
+    requires { (names.now.count ≤ 64) × (k ≤ 1024) × Declares names.now.count names.now.«len» names.now.«high» names.now.«low» }
+    ensures { StepRead s.now at n names.now.count names.now.«len» names.now.«high» names.now.«low» k result }
 {
-    let QuickStep::Found {
-        source,
-        event,
-        target,
-        next,
-    } = read_step_quickly(s, at, n, len, high, low, count, hints)
-    else {
-        return read_words(s, at, n, len, high, low, count, k);
+    let Some(step) = read_step_quickly(s, at, n, names) else {
+        return read_words(s, at, n, names, k);
     };
     if MAX_TRANSITIONS <= k {
-        return StepAt::Refused(Refusal::LimitExceeded { line: 3 + k }); // 2 oversize
+        return Err(Refusal::LimitExceeded { line: 3 + k }); // 2 oversize
     }
-    StepAt::Found {
-        source,
-        event,
-        target,
-        next,
-    }
+    Ok(Some(step))
 }
 
-// The step lines at a position, against n states and the names in the rows.
-pub fn read_transitions<'a>(
+// Step lines: how many were read, and the position after them.
+#[derive(Drop)]
+pub struct Section {
+    pub count: usize,
+    pub next: usize,
+}
+
+// The step lines at a position, against n states and the names, into the tables.
+pub fn read_transitions(
     s: &[u8],
     at: usize,
     n: usize,
-    len: &'a [usize; MAX_EVENTS],
-    high: &'a [u64; MAX_EVENTS],
-    low: &'a [u64; MAX_EVENTS],
-    count: usize,
-    source: &mut [u8; MAX_TRANSITIONS],
-    event: &mut [u8; MAX_TRANSITIONS],
-    target: &mut [u8; MAX_TRANSITIONS],
-) -> Section
-    requires { (n ≤ 256) × (count ≤ 64) × Declares count «len».now «high».now «low».now }
-    ensures result_bound { count_of result ≤ 1024 }
-    ensures reads_steps { ReadsSteps s.now at n count «len».now «high».now «low».now result (transition_rows source.old event.old target.old) (transition_rows source.new event.new target.new) }
+    names: &Names,
+    plan: &mut Tables,
+) -> Result<Section, Refusal>
+    requires { (n ≤ 256) × (names.now.count ≤ 64) × Declares names.now.count names.now.«len» names.now.«high» names.now.«low» }
+    ensures result_bound { IfOk result (λ r. r.count ≤ 1024) }
+    ensures reads_steps { ReadsSteps s.now at n names.now.count names.now.«len» names.now.«high» names.now.«low» result (rows_of_steps plan.old) (rows_of_steps plan.new) }
+    ensures others { plan.new ≡ with_step_rows plan.old (rows_of_steps plan.new) }
 {
-    let mut hints = [0u8; HINTS];
-    fill_hints(high, low, count, &mut hints);
-    let mut k = 0;
-    let mut i = at;
-    loop {
-        match step_at(s, i, n, len, high, low, count, &hints, k) {
-            StepAt::Missing => return Section::Read { count: k, next: i },
-            StepAt::Refused(why) => return Section::Refused(why),
-            StepAt::Found {
-                source: a,
-                event: e,
-                target: b,
-                next,
-            } => {
-                source[k] = narrow(a);
-                event[k] = narrow(e);
-                target[k] = narrow(b);
-                k += 1;
-                i = next;
-            }
-        }
+    let mut count = 0;
+    let mut next = at;
+    while let Some(step) = step_at(s, next, n, names, count)? {
+        plan.source[count] = step.source as u8;
+        plan.event[count] = step.event as u8;
+        plan.target[count] = step.target as u8;
+        count += 1;
+        next = step.next;
     }
+    Ok(Section { count, next })
 }

@@ -1,3 +1,2 @@
--- The moves of first transitions, and that all machines pass.
-pub mod Putting
+-- That all machines pass.
 pub mod AtOnce

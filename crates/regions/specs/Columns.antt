@@ -1,10 +1,11 @@
 -- The places of all machines side by side: the 16 entries from x * 16 on are the column of state x, its places, with a lane for each machine.
-use Rattle.std.specs.Prelude.{ℕ, zero, suc, ◌+◌, ◌*◌, ◌<◌, ◌≤◌, ◌≡◌, Bool, true, not, ◌&&◌, List, T, length}
+use Rattle.std.specs.Prelude.{ℕ, Option, Some, None, zero, suc, ◌+◌, ◌*◌, ◌<◌, ◌≤◌, ◌≡◌, Bool, true, not, ◌&&◌, List, T, length}
 use Rattle.rows.specs.declared.Counts.{Counts}
 use Rattle.rows.specs.Told.{entry}
 use Rattle.regions.specs.declared.crossings.Crossing.{Crossing}
 use Rattle.regions.specs.Indexed.{Indexed, Chained}
-use Rattle.regions.specs.Crossings.{crossing_at, agreeing}
+use Rattle.regions.specs.Moves.{MoveRows}
+use Rattle.regions.specs.Crossings.{crossing_at, agreeing, pre_mark, MovesPut}
 
 -- from the column at one position to the column at another, in lane m
 unfoldable pub lane_at : List ℕ → ℕ → ℕ → ℕ → Crossing
@@ -46,8 +47,33 @@ pub record FirstUneven (source target first next columns : List ℕ) (events n r
   pub even : (event : List ℕ) → Indexed event n first next → (d : ℕ) → d < r → (k : ℕ) → k < n → entry event k ≡ d → T (alike_at columns source target (entry first d) k)
   pub uneven : (event : List ℕ) → Indexed event n first next → r < events → (k : ℕ) × (k < n) × (entry event k ≡ r) × T (not (alike_at columns source target (entry first r) k))
 
+-- that event, if there is one
+abbrev pub UnevenAt : List ℕ → List ℕ → List ℕ → List ℕ → List ℕ → ℕ → ℕ → Option ℕ → Type 0
+UnevenAt source target first next columns events n None = FirstUneven source target first next columns events n events
+UnevenAt source target first next columns events n (Some e) = (e < events) × FirstUneven source target first next columns events n e
+
 -- each machine places every state, and each transition leads through it like the first of its event
 pub record AlikeAtOnce (c : Counts) (source target place first next : List ℕ) : Type 0 where
   pub placed : (m : ℕ) → m < c.machines → (x : ℕ) → x < c.states → ¬ (entry place (m * 256 + x) ≡ 255)
   pub alike : (event : List ℕ) → Indexed event c.transitions first next → (m : ℕ) → m < c.machines → (d : ℕ) → d < c.events → (k : ℕ) → k < c.transitions → entry event k ≡ d
       → T (agreeing (crossing_at source target place m (entry first d)) (crossing_at source target place m k))
+
+-- event e has its moves, those from one column to another in the first n lanes, and the events before it have theirs as before
+pub record EventPut (columns : List ℕ) (from to e : ℕ) (pre post pre2 post2 : List ℕ) (n : ℕ) : Type 0 where
+  pub rows : MoveRows pre2 post2
+  pub pres : (m : ℕ) → m < n → entry pre2 (e * 16 + m) ≡ pre_mark (lane_at columns from to m)
+  pub posts : (m : ℕ) → m < n → entry post2 (e * 16 + m) ≡ (lane_at columns from to m).post
+  pub pres_kept : (i : ℕ) → i < e * 16 → entry pre2 i ≡ entry pre i
+  pub posts_kept : (i : ℕ) → i < e * 16 → entry post2 i ≡ entry post i
+
+-- the moves of the events, those of their first transitions in each lane
+pub record EventsPut (source target first columns : List ℕ) (events : ℕ) (pre post : List ℕ) : Type 0 where
+  pub rows : MoveRows pre post
+  pub pres : (e : ℕ) → e < events → (m : ℕ) → m < 16 → entry pre (e * 16 + m) ≡ pre_mark (lane_at columns (entry source (entry first e) * 16) (entry target (entry first e) * 16) m)
+  pub posts : (e : ℕ) → e < events → (m : ℕ) → m < 16 → entry post (e * 16 + m) ≡ (lane_at columns (entry source (entry first e) * 16) (entry target (entry first e) * 16) m).post
+
+-- the answer yes says that the machines agree, and the rows have their moves
+pub record AgreesAtOnce (c : Counts) (source target place first next : List ℕ) (r : Bool) (pre post : List ℕ) : Type 0 where
+  pub rows : MoveRows pre post
+  pub alike : r ≡ true → AlikeAtOnce c source target place first next
+  pub moves : r ≡ true → MovesPut source target place first c.events c.machines pre post

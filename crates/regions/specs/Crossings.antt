@@ -1,5 +1,5 @@
 -- How transitions lead through a machine, what the scan for 10 answers, and the moves of events whose transitions all lead like the first.
-use Rattle.std.specs.Prelude.{ℕ, ◌+◌, ◌*◌, ◌<◌, ◌≤◌, ◌≡◌, Bool, cond, ◌&&◌, List, eqb, length}
+use Rattle.std.specs.Prelude.{ℕ, Option, Some, None, ◌+◌, ◌*◌, ◌<◌, ◌≤◌, ◌≡◌, Bool, cond, ◌&&◌, List, eqb}
 use Rattle.model.specs.TransitionSystem.{TransitionSystem}
 use Rattle.model.specs.Machine.{Machine, place_of, nonuniform_event}
 use Rattle.model.specs.Machine as M
@@ -44,23 +44,15 @@ ScannedAlong c source target place first next k pre post r =
     (event : List ℕ) (ts : TransitionSystem) (m : Machine) → Indexed event c.transitions first next → Scannable ts m k source event target place c.transitions
     → c.events ≡ ts.events → Scanned ts m k pre post r
 
+-- of the first event that is not level, if there is one
+abbrev pub ScannedTo : Counts → List ℕ → List ℕ → List ℕ → List ℕ → List ℕ → ℕ → List ℕ → List ℕ → Option ℕ → Type 0
+ScannedTo c source target place first next k pre post None = ScannedAlong c source target place first next k pre post c.events
+ScannedTo c source target place first next k pre post (Some e) = (e < c.events) × ScannedAlong c source target place first next k pre post e
+
 -- the moves on the machines before k are as they were
 pub record EarlierKept (k : ℕ) (pre post pre2 post2 : List ℕ) : Type 0 where
   pub rows : MoveRows pre2 post2
   pub same : (j e : ℕ) → j < k → e < 64 → move_at pre2 post2 j e ≡ move_at pre post j e
-
--- each event has a first transition
-pub record Leading (first : List ℕ) (events : ℕ) : Type 0 where
-  pub size : length first ≡ 64
-  pub low : (e : ℕ) → e < events → entry first e < 1024
-
--- the moves on machine m, those of the first transitions; the moves on the machines before m are as they were
-pub record PutMoves (source target place first : List ℕ) (events m : ℕ) (pre post pre2 post2 : List ℕ) : Type 0 where
-  pub rows : MoveRows pre2 post2
-  pub pres : (e : ℕ) → e < events → entry pre2 (e * 16 + m) ≡ pre_mark (crossing_at source target place m (entry first e))
-  pub posts : (e : ℕ) → e < events → entry post2 (e * 16 + m) ≡ (crossing_at source target place m (entry first e)).post
-  pub pres_kept : (e j : ℕ) → j < m → entry pre2 (e * 16 + j) ≡ entry pre (e * 16 + j)
-  pub posts_kept : (e j : ℕ) → j < m → entry post2 (e * 16 + j) ≡ entry post (e * 16 + j)
 
 -- the moves on all machines
 pub record MovesPut (source target place first : List ℕ) (events machines : ℕ) (pre post : List ℕ) : Type 0 where

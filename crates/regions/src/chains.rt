@@ -3,33 +3,43 @@ ghost use Rattle.std.specs.Prelude.{◌≡◌, ℕ, ◌<◌, ◌≤◌, length, 
 ghost use Rattle.rows.specs.Told.{entry};
 ghost use Rattle.regions.specs.Indexed.{Indexed};
 
-use rows::wide;
+use model::MAX_EVENTS;
+use rows::Tables;
 
-// A position in a row of positions as an index, and an index as such a position.
-pub fn position(x: u16) -> usize
-    ensures { result ≡ x }
-{
-    x as usize
+// For each event the first of its transitions, and for each transition the next of its event; their count where there is none.
+#[derive(Clone, Copy)]
+pub struct Chains<'a> {
+    pub first: &'a [u16; MAX_EVENTS],
+    pub next: &'a [u16],
 }
 
-pub fn short(x: usize) -> u16
-    requires { x ≤ 1024 }
-    ensures { result ≡ x }
-{
-    x as u16
+impl Chains<'_> {
+    // The first transition of event e.
+    pub fn begin(self, e: usize) -> usize
+        requires { e < 64 }
+        ensures { result ≡ entry self.entry.first.now e }
+    {
+        usize::from(self.first[e])
+    }
+
+    // The transition after k of the same event.
+    pub fn after(self, k: usize) -> usize
+        requires { k < length self.next.now }
+        ensures { result ≡ entry self.entry.next.now k }
+    {
+        usize::from(self.next[k])
+    }
 }
 
-// For each event the first of n transitions that has it, and for each transition the next of its event; n where there is none, as in the row of firsts before.
-pub fn index_by_event(event: &[u8], n: usize, first: &mut [u16], next: &mut [u16])
-    requires n_bound { (n ≤ 1024) × (n ≤ length event.now) × ((k : ℕ) → k < n → entry event.now k < 64) }
-    requires first_value { (first.old ≡ replicate 64 n) × (n ≤ length next.old) }
-    ensures { Indexed event.now n first.new next.new }
+// The chains of the transitions. No event has one yet in the row of firsts before.
+pub fn index_by_event(plan: &Tables, first: &mut [u16; MAX_EVENTS], next: &mut [u16])
+    requires n_bound { let p = plan.now in (p.counts.transitions ≤ 1024) × ((k : ℕ) → k < p.counts.transitions → entry p.event k < 64) }
+    requires first_value { (first.old ≡ replicate 64 plan.now.counts.transitions) × (plan.now.counts.transitions ≤ length next.old) }
+    ensures { Indexed plan.now.event plan.now.counts.transitions first.new next.new }
 {
-    let mut k = n;
-    while 0 < k {
-        k -= 1;
-        let e = wide(event[k]);
+    for k in (0..plan.counts.transitions).rev() {
+        let e = usize::from(plan.event[k]);
         next[k] = first[e];
-        first[e] = short(k);
+        first[e] = k as u16;
     }
 }

@@ -1,27 +1,26 @@
 // How a transition leads through a machine.
-ghost use Rattle.std.specs.Prelude.{◌≡◌, ◌<◌, length};
+ghost use Rattle.std.specs.Prelude.{◌≡◌, ◌<◌};
 ghost use Rattle.regions.specs.Crossings.{crossing_at, agreeing, pre_mark};
 
-use super::NOT_ON;
 use model::MAX_STATES;
-use rows::wide;
+use rows::{NOT_ON, Tables};
 
 // From place to place.
-#[derive(Clone, Copy)]
+#[derive(Clone, Copy, PartialEq)]
 pub struct Crossing {
     pub pre: u8,
     pub post: u8,
 }
 
 // Transition k through machine m.
-pub fn crossing_at(source: &[u8], target: &[u8], place: &[u8], m: usize, k: usize) -> Crossing
-    requires { (m < 16) × (length place.now ≡ 4096) × (k < length source.now) × (k < length target.now) }
-    ensures { result ≡ crossing_at source.now target.now place.now m k }
+pub fn crossing_at(plan: &Tables, m: usize, k: usize) -> Crossing
+    requires { (m < 16) × (k < 1024) }
+    ensures { let p = plan.now in result ≡ crossing_at p.source p.target p.place m k }
 {
     let from = m * MAX_STATES;
     Crossing {
-        pre: place[from + wide(source[k])],
-        post: place[from + wide(target[k])],
+        pre: plan.place[from + usize::from(plan.source[k])],
+        post: plan.place[from + usize::from(plan.target[k])],
     }
 }
 
@@ -30,12 +29,10 @@ pub fn agrees(a: Crossing, b: Crossing) -> bool
     ensures { result ≡ agreeing a b }
 {
     if a.pre == a.post {
-        return b.pre == b.post;
+        b.pre == b.post
+    } else {
+        a == b
     }
-    if a.pre == b.pre {
-        return a.post == b.post;
-    }
-    false
 }
 
 // The pre-place of an event whose transitions lead through a machine like this.

@@ -1,101 +1,67 @@
 // 8 to 10 machine by machine, which names machine and event.
-ghost use Rattle.std.specs.Prelude.{◌≡◌, ◌+◌, ◌*◌, ◌<◌, ◌≤◌, length, eqb};
-ghost use Rattle.model.specs.Lists.{lowest};
-ghost use Rattle.rows.specs.Told.{entry, below};
+ghost use Rattle.std.specs.Prelude.{◌≡◌, ◌+◌, ◌*◌, ◌<◌, ◌≤◌, ◌==◌, position, slice_range};
 ghost use Rattle.regions.specs.Moves.{MoveRows};
 ghost use Rattle.regions.specs.Indexed.{Chained};
-ghost use Rattle.regions.specs.Crossings.{ScannedAlong, EarlierKept};
-ghost use Rattle.rows.specs.Sizes.{CrossedSizes};
+ghost use Rattle.regions.specs.Crossings.{ScannedTo, EarlierKept};
 ghost use Rattle.regions.specs.Regions.{CheckableAlong, ToldAlong};
 
-use super::chains::position;
+use super::chains::Chains;
 use super::crossings::{agrees, crossing_at, pre_of};
 use model::{MAX_MACHINES, MAX_STATES, Refusal};
-use rows::{Counts, NO_STATE, UNPLACED, Verdict};
+use rows::{Moves, NO_STATE, Tables, UNPLACED};
 
-// 10: the lowest event for which a place of machine m is no region, or the count of events; before it, the move of each event is put into the rows.
-fn scan_events(
-    c: Counts,
-    source: &[u8],
-    target: &[u8],
-    place: &[u8],
-    first: &[u16],
-    next: &[u16],
-    m: usize,
-    pre: &mut [u8],
-    post: &mut [u8],
-) -> usize
-    requires transitions_bound { (c.transitions ≤ 1024) × (c.events ≤ 64) × (m < 16) × CrossedSizes source.now target.now place.now }
-    requires chained { Chained c.transitions c.events first.now next.now × MoveRows pre.old post.old }
-    ensures earlier_kept { EarlierKept m pre.old post.old pre.new post.new }
-    ensures scanned_along { ScannedAlong c source.now target.now place.now first.now next.now m pre.new post.new result }
+// 10: the lowest event for which a place of machine m is no region; before it, the move of each event is put into the rows.
+fn scan_events(plan: &Tables, chains: Chains, m: usize, moves: &mut Moves) -> Option<usize>
+    requires transitions_bound { (plan.now.counts.transitions ≤ 1024) × (plan.now.counts.events ≤ 64) × (m < 16) }
+    requires chained { Chained plan.now.counts.transitions plan.now.counts.events chains.first.now chains.next.now × MoveRows moves.old.pre moves.old.post }
+    ensures earlier_kept { EarlierKept m moves.old.pre moves.old.post moves.new.pre moves.new.post }
+    ensures scanned_along { let p = plan.now in ScannedTo p.counts p.source p.target p.place chains.entry.first.now chains.entry.next.now m moves.new.pre moves.new.post result }
 {
-    let n = c.transitions;
-    let events = c.events;
-    let mut e = 0;
-    'events: while e < events {
-        let mut k = position(first[e]);
-        let one = crossing_at(source, target, place, m, k);
+    let n = plan.counts.transitions; // read once, not again after each store
+    let mut uneven = None;
+    'events: for e in 0..plan.counts.events {
+        let mut k = chains.begin(e);
+        let one = crossing_at(plan, m, k);
         while k < n {
-            if !agrees(one, crossing_at(source, target, place, m, k)) {
+            if !agrees(one, crossing_at(plan, m, k)) {
+                uneven = Some(e);
                 break 'events;
             }
-            k = position(next[k]);
+            k = chains.after(k);
         }
-        pre[e * MAX_MACHINES + m] = pre_of(one);
-        post[e * MAX_MACHINES + m] = one.post;
-        e += 1;
+        moves.pre[e * MAX_MACHINES + m] = pre_of(one);
+        moves.post[e * MAX_MACHINES + m] = one.post;
     }
-    e
+    uneven
 }
 
-// 9: the lowest of n states that machine m has in no place; n if there is none.
-fn uncovered_state(place: &[u8], m: usize, n: usize) -> usize
-    requires { (m < 16) × (n ≤ 256) × (length place.now ≡ 4096) }
-    ensures upper_bound { result ≤ n }
-    ensures result_value { below n result ≡ lowest (λ x. eqb (entry place.now (m * 256 + x)) 255) n }
+// 9: the lowest state that machine m has in no place.
+fn uncovered_state(plan: &Tables, m: usize) -> Option<usize>
+    requires { (m < 16) × (plan.now.counts.states ≤ 256) }
+    ensures { result ≡ position (λ x. x == 255) (slice_range plan.now.place (m * 256) (m * 256 + plan.now.counts.states)) }
 {
     let from = m * MAX_STATES;
-    let mut x = 0;
-    while x < n {
-        if place[from + x] == UNPLACED {
-            return x;
-        }
-        x += 1;
-    }
-    x
+    plan.place[from..from + plan.counts.states]
+        .iter()
+        .position(|place| *place == UNPLACED)
 }
 
 // The refusal that comes first: 8, 9, 10 of each machine in turn. Passed, the rows have the move of each event on each machine.
-pub fn check_in_turn(
-    c: Counts,
-    source: &[u8],
-    target: &[u8],
-    duplicate: &[usize],
-    place: &[u8],
-    first: &[u16],
-    next: &[u16],
-    pre: &mut [u8],
-    post: &mut [u8],
-) -> Verdict
-    requires { CheckableAlong c source.now target.now duplicate.now place.now first.now next.now pre.old post.old }
-    ensures { ToldAlong c source.now target.now duplicate.now place.now first.now next.now result pre.new post.new }
+pub fn check_in_turn(plan: &Tables, chains: Chains, moves: &mut Moves) -> Result<(), Refusal>
+    requires { let p = plan.now in CheckableAlong p.counts p.source p.target p.duplicate p.place chains.first.now chains.next.now moves.old.pre moves.old.post }
+    ensures { let p = plan.now in ToldAlong p.counts p.source p.target p.duplicate p.place chains.entry.first.now chains.entry.next.now result moves.new.pre moves.new.post }
 {
-    let mut machine = 0;
-    while machine < c.machines {
-        let state = duplicate[machine];
+    for machine in 0..plan.counts.machines {
+        let state = plan.duplicate[machine];
         if state != NO_STATE {
-            return Verdict::Refused(Refusal::DuplicateState { machine, state }); // 8 doubled
+            return Err(Refusal::DuplicateState { machine, state }); // 8 doubled
         }
-        let state = uncovered_state(place, machine, c.states);
-        if state < c.states {
-            return Verdict::Refused(Refusal::UncoveredState { machine, state }); // 9 missing
+        if let Some(state) = uncovered_state(plan, machine) {
+            return Err(Refusal::UncoveredState { machine, state }); // 9 missing
         }
-        let event = scan_events(c, source, target, place, first, next, machine, pre, post);
-        if event < c.events {
-            return Verdict::Refused(Refusal::NotARegion { machine, event }); // 10 uneven
+        if let Some(event) = scan_events(plan, chains, machine, moves) {
+            return Err(Refusal::NotARegion { machine, event }); // 10 uneven
         }
-        machine += 1;
     }
-    Verdict::Passed
+    Ok(())
 }

@@ -1,11 +1,11 @@
 -- What words come to, by computation.
-use Rattle.std.specs.Prelude.{◌≡◌, refl, [], ◌∷◌, map}
+use Rattle.std.specs.Prelude.{◌≡◌, refl, [], ◌∷◌, map, Some}
 use Rattle.model.specs.Lists.{every}
 use Rattle.model.specs.Bytes.{bytes, is_digit, is_letter, is_capital, lower, is_name_byte, is_name}
 use Rattle.command_line.specs.Words.{service_said, is_numeral, is_name_word}
 use Rattle.command_line.specs.Program.{service_asked, further_words}
 use Rattle.replies.specs.declared.Reply.TheVariants as R
-use Rattle.replies.specs.Replies.{is_refusal, refusal_names, number_from, refusal_said, says_event, takes_after_explain, takes, least_words, wrong_from, is_unknown, wrong_word, help_asked, explanation_asked, reply_by, reply_asked}
+use Rattle.replies.specs.Replies.{is_refusal, refusal_names, number_from, refusal_said, says_event, takes_after_explain, takes, least_words, wrong_from, is_unknown, wrong_word, help_asked, explanation_asked, reply_by, unless_wrong, reply_asked}
 
 pub record RepliesToWords : Type 0 where
   pub helped : reply_asked (bytes "help" ∷ []) ≡ R.Help
@@ -26,7 +26,7 @@ pub record RepliesToWords : Type 0 where
   pub in_capitals : reply_asked (bytes "run" ∷ bytes "READY" ∷ bytes "Brake" ∷ []) ≡ R.Service
   pub unknown_in_capitals : reply_asked (bytes "Run" ∷ bytes "ready" ∷ []) ≡ R.Usage 1
   pub explained_in_capitals : reply_asked (bytes "explain" ∷ bytes "Open" ∷ []) ≡ R.Usage 2
-  pub each_name : map refusal_said refusal_names ≡ 1 ∷ 2 ∷ 3 ∷ 4 ∷ 5 ∷ 6 ∷ 7 ∷ 8 ∷ 9 ∷ 10 ∷ 11 ∷ 12 ∷ 13 ∷ 14 ∷ 15 ∷ []
+  pub each_name : map refusal_said refusal_names ≡ map Some (1 ∷ 2 ∷ 3 ∷ 4 ∷ 5 ∷ 6 ∷ 7 ∷ 8 ∷ 9 ∷ 10 ∷ 11 ∷ 12 ∷ 13 ∷ 14 ∷ 15 ∷ [])
   pub no_merge : reply_asked (bytes "merge" ∷ bytes "ready" ∷ []) ≡ R.Usage 2
   pub merged : reply_asked (bytes "merge" ∷ bytes "144" ∷ []) ≡ R.Service
   pub no_quote : reply_asked (bytes "quote" ∷ bytes "ready" ∷ []) ≡ R.Usage 2
@@ -37,7 +37,7 @@ pub record RepliesToWords : Type 0 where
 
 pub replies : RepliesToWords
 unfolding every is_digit is_letter is_capital lower is_name_byte is_name service_said is_numeral is_name_word service_asked further_words is_refusal number_from refusal_said says_event takes_after_explain takes least_words
-    wrong_from is_unknown wrong_word help_asked explanation_asked reply_by reply_asked
+    wrong_from is_unknown wrong_word help_asked explanation_asked reply_by unless_wrong reply_asked
 replies =
     record {
       helped = refl;

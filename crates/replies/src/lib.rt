@@ -20,31 +20,34 @@ pub enum Reply {
     Service,
 }
 
+#[tactic(auto, using(crate::proofs::Replying::helps, crate::proofs::Replying::shows_form))]
 fn help_asked(words: &[u8]) -> Reply
     ensures { result ≡ help_asked (words_in words.now) }
 {
-    if words.len() > 0 {
-        return Reply::TextForm;
+    if words.is_empty() {
+        Reply::Help
+    } else {
+        Reply::TextForm
     }
-    Reply::Help
 }
 
+// 0 explains nothing: a word that says no refusal is wrong before this is asked.
 fn explanation_asked(words: &[u8]) -> Reply
     ensures { result ≡ explanation_asked (words_in words.now) }
 {
-    if words.len() == 0 {
+    if words.is_empty() {
         return Reply::Usage(2);
     }
     let end = word_end(words, 0);
-    Reply::Explanation(refusal_said(&words[..end]))
+    Reply::Explanation(refusal_said(&words[..end]).unwrap_or(0))
 }
 
+#[tactic(auto, using(crate::proofs::Replying::tells_wrong))]
 pub fn reply_asked(words: &[u8]) -> Reply
     ensures { result ≡ reply_asked (words_in words.now) }
 {
-    let wrong = wrong_word(words);
-    if wrong > 0 {
-        return Reply::Usage(wrong);
+    if let Some(number) = wrong_word(words) {
+        return Reply::Usage(number);
     }
     let at = second_word(words);
     let asked = service_asked(words);

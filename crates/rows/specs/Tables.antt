@@ -1,22 +1,22 @@
 -- The counts and rows that hold what a text gives, and the refusal that a verdict has.
-use Rattle.std.specs.Prelude.{ℕ, length}
+use Rattle.std.specs.Prelude.{ℕ, ◌≡◌, Result, Ok, Err, length, replicate}
 use mathlib.Core.List.{List, map, flat_map}
 use Rattle.std.proofs.Math.Option.{Option, none, some}
+use Rattle.model.specs.declared.Refusal as D
 use Rattle.model.specs.Refusal.{Refusal}
 use Rattle.model.specs.Cases.{tabled}
 use Rattle.model.specs.TransitionSystem.{Transition}
 use Rattle.model.specs.Machine.{Machine, duplicate_state}
 use Rattle.model.specs.Text.{Input, system, name_at}
 use Rattle.rows.specs.Rows.{row, tabulate, place_row, or_no_state}
-use Rattle.rows.specs.declared.Verdict.{Verdict}
-use Rattle.rows.specs.declared.Verdict.TheVariants.{Refused, Passed}
 use Rattle.rows.specs.declared.Counts.{Counts}
 use Rattle.rows.specs.declared.Tables.{Tables}
+use Rattle.rows.specs.declared.Moves.{Moves}
 
--- the refusal with document 01's number and details, if there is one
-unfoldable pub verdict_refusal : Verdict → Option Refusal
-verdict_refusal (Refused why) = some (tabled why)
-verdict_refusal Passed = none
+-- the refusal, with its number and details in the table, that a check answers
+unfoldable pub verdict_refusal : Result (Unit {0}) D.Refusal → Option Refusal
+verdict_refusal (Err why) = some (tabled why)
+verdict_refusal (Ok _) = none
 
 -- how many of each a value has
 abbrev pub counts_of : Input → Counts
@@ -63,3 +63,24 @@ tables_in c ats lens sources events targets sizes duplicates places =
 
 unfoldable pub no_counts : Counts
 no_counts = record { states = 0; initial = 0; events = 0; transitions = 0; machines = 0 }
+
+-- each entry is that of one that is not in use
+pub record FreshRows (ats lens sources events targets sizes duplicates places : List ℕ) : Type 0 where
+  pub fresh_name_at : ats ≡ replicate 64 0
+  pub fresh_name_len : lens ≡ replicate 64 0
+  pub fresh_source : sources ≡ replicate 1024 0
+  pub fresh_event : events ≡ replicate 1024 0
+  pub fresh_target : targets ≡ replicate 1024 0
+  pub fresh_sizes : sizes ≡ replicate 16 0
+  pub fresh_duplicate : duplicates ≡ replicate 16 256
+  pub fresh_place : places ≡ replicate 4096 255
+
+-- no text is read into the tables yet
+pub record FreshTables (p : Tables) : Type 0 where
+  pub counts : p.counts ≡ no_counts
+  pub rows : FreshRows p.name_at p.name_len p.source p.event p.target p.sizes p.duplicate p.place
+
+-- no event is on a machine
+pub record NoMoves (m : Moves) : Type 0 where
+  pub pre : m.pre ≡ replicate 1024 255
+  pub post : m.post ≡ replicate 1024 0

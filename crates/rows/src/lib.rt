@@ -1,9 +1,9 @@
-// What a text holds once it is read, as counts and rows of numbers, and what a check answers. Reader and checks have these in common.
+// What a text holds once it is read, as counts and rows of numbers, and the moves of its machines. Reader and checks have these in common.
 #![tactic(auto)]
 
-ghost use Rattle.std.specs.Prelude.{◌≡◌, ◌<◌};
+ghost use Rattle.rows.specs.Tables.{FreshTables, NoMoves};
 
-use model::{MAX_EVENTS, MAX_MACHINES, MAX_TRANSITIONS, Refusal};
+use model::{MAX_EVENTS, MAX_MACHINES, MAX_TRANSITIONS};
 
 // In a row of places: the state is in no place.
 pub const UNPLACED: u8 = 255;
@@ -11,14 +11,14 @@ pub const UNPLACED: u8 = 255;
 // A number that no state has.
 pub const NO_STATE: usize = 256;
 
-// What a check answers.
-#[derive(Clone, Copy)]
-pub enum Verdict {
-    Refused(Refusal),
-    Passed,
-}
+// In the row of pre-places: the event is not on the machine.
+pub const NOT_ON: u8 = 255;
 
-// How many states, events, transitions and machines a text has, and its initial state.
+// A row of moves has an entry for each event of each machine.
+pub const MOVES: usize = 1024;
+
+// How many states, events, transitions and machines a text has, and its initial state. Their bounds are clauses and no ghost field, since the model counts any value (`counts_of`),
+// within the bounds or not.
 #[derive(Clone, Copy)]
 pub struct Counts {
     pub states: usize,
@@ -28,14 +28,8 @@ pub struct Counts {
     pub machines: usize,
 }
 
-// The answer to a text whose rows are lent. Refused by 1 to 3, its counts are all 0, and what the rows hold is left open.
-#[derive(Drop)]
-pub struct Counted {
-    pub verdict: Verdict,
-    pub counts: Counts,
-}
-
-// What a text holds, in rows. Document 01: a plan and its split. An entry that is not in use is 0, in `duplicate` NO_STATE, in `place` UNPLACED.
+// What a text holds, in rows. Document 01: a plan and its split. Rows of numbers and no rows of structs: the core works on numbers, and a check reads one row of them.
+// An entry that is not in use is 0, in `duplicate` NO_STATE, in `place` UNPLACED.
 #[derive(Drop)]
 pub struct Tables {
     pub counts: Counts,
@@ -53,16 +47,46 @@ pub struct Tables {
     pub place: [u8; 4096],
 }
 
-// A number as an entry of a row, and an entry as a number.
-pub fn narrow(x: usize) -> u8
-    requires { x < 256 }
-    ensures { result ≡ x }
-{
-    x as u8
+impl Tables {
+    // No text is read into them yet.
+    pub fn fresh() -> Tables
+        ensures { FreshTables result }
+    {
+        Tables {
+            counts: Counts {
+                states: 0,
+                initial: 0,
+                events: 0,
+                transitions: 0,
+                machines: 0,
+            },
+            name_at: [0; MAX_EVENTS],
+            name_len: [0; MAX_EVENTS],
+            source: [0; MAX_TRANSITIONS],
+            event: [0; MAX_TRANSITIONS],
+            target: [0; MAX_TRANSITIONS],
+            sizes: [0; MAX_MACHINES],
+            duplicate: [NO_STATE; MAX_MACHINES],
+            place: [UNPLACED; 4096],
+        }
+    }
 }
 
-pub fn wide(x: u8) -> usize
-    ensures { (result ≡ x) × (result < 256) }
-{
-    x as usize
+// The moves of the events on the machines: at e * 16 + m the pre-place and the post-place of event e on machine m. Two rows, so that the sixteen pre-places of an event are one vector.
+#[derive(Drop)]
+pub struct Moves {
+    pub pre: [u8; MOVES],
+    pub post: [u8; MOVES],
+}
+
+impl Moves {
+    // No event is on a machine.
+    pub fn none() -> Moves
+        ensures { NoMoves result }
+    {
+        Moves {
+            pre: [NOT_ON; MOVES],
+            post: [0; MOVES],
+        }
+    }
 }

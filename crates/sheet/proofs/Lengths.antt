@@ -12,7 +12,7 @@ use lib.Dec.{T, ltb, ltb→lt, lt→ltb}
 use lib.ListN.{length, get_or, length-append}
 use Rattle.model.specs.Bytes.{digits, Name}
 use Rattle.model.specs.Sheet.{move_bytes}
-use Rattle.model.proofs.Laws.{T_true, T_false, and_l, and_r, and_not, order, not_below, cond_true, cond_false}
+use Rattle.model.proofs.Laws.{T_false, and_l, and_r, and_not, order, not_below, cond_true, cond_false}
 use Rattle.rows.specs.declared.Counts.{Counts}
 use Rattle.rows.specs.Tables.{tables_in}
 use Rattle.rows.specs.Told.{entry}
@@ -25,13 +25,6 @@ use Rattle.sheet.proofs.Parts.{length_move, length_head}
 use Rattle.rows.proofs.Names.{name_at_lem, length_name}
 use Rattle.sheet.proofs.Moving.{moves_skip, moves_add}
 use Rattle.sheet.proofs.Lining.{lines_to, line_of, lines_more, length_line, length_sheet}
-
--- what a machine's test says
-pub on_yes : {m n q r : ℕ} → m < n → r ≡ q → ltb r 64 ≡ (ltb m n && ltb q 64)
-on_yes {m} {n} h e = rw (T_true (ltb m n) (lt→ltb m n h), e)
-
-pub on_no : {m n : ℕ} (q : ℕ) → n ≤ m → false ≡ (ltb m n && ltb q 64)
-on_no {m} {n} q h = rw (T_false (ltb m n) (not_below m n h))
 
 -- of one event the moves on the first m machines, as far as there are machines
 pub record Counted (pre post : List ℕ) (e machines lane m moves figures : ℕ) : Type 0 where

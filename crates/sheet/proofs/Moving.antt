@@ -94,7 +94,3 @@ module _ {s ats lens pre post : List ℕ} {k events at size : ℕ} {out : List �
             ap length one_more_lem,
             length-append (moves_bytes names pre post k e) (move_bytes (name_in s ats lens e) (entry pre (e * 16 + k)) (entry post (e * 16 + k))),
           )
-
-  pub moved_end : {left : List ℕ} {i e : ℕ} → Moved s ats lens pre post k events at size out left i e → events ≤ e
-      → WritesWithin (moves_bytes (names_in s ats lens events) pre post k events) at size out i left
-  moved_end {left} {i} {e} p h = let z : e ≡ events = omega (arith, p.most) in rw z at p.written

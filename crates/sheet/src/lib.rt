@@ -1,12 +1,11 @@
 // The sheet: its length, and its bytes.
 #![tactic(auto)]
 
-ghost use Rattle.std.specs.Prelude.{◌≡◌, ℕ, ◌+◌, ◌<◌, ◌≤◌, ◌&&◌, ltb, length, take, drop};
+ghost use Rattle.std.specs.Prelude.{◌≡◌, ◌+◌, ◌<◌, ◌≤◌, ◌&&◌, ltb, length, take, drop};
 ghost use Rattle.model.specs.Bytes.{digits};
 ghost use Rattle.model.specs.Sheet.{move_bytes};
 ghost use Rattle.rows.specs.Told.{entry};
 ghost use Rattle.rows.specs.Bounded.{NamesInside};
-ghost use Rattle.regions.specs.Moves.{MoveRows};
 ghost use Rattle.writers.specs.Written.{Writes};
 ghost use Rattle.sheet.specs.Written.{head_bytes, places_bytes, named_moves};
 ghost use Rattle.sheet.specs.Lengths.{event_length, moves_length, heads_length};
@@ -14,7 +13,7 @@ ghost use Rattle.sheet.specs.Within.{WritesWithin};
 ghost use Rattle.sheet.specs.Rows.{SheetBounds, SheetReady, sheet_size, SheetLength, SheetLeft};
 
 use model::{MAX_MACHINES, MAX_PLACES, MAX_STATES};
-use rows::{Counts, wide};
+use rows::{Moves, Tables};
 use writers::{figure_len, write_bytes, write_figure};
 
 // ---- lengths
@@ -30,99 +29,74 @@ const MOVE: usize = 10;
 fn place_len(n: u8) -> u8
     ensures { (result ≡ length (digits n)) × (result ≤ 3) }
 {
-    if n < 10 {
-        1
-    } else if n < 100 {
-        2
-    } else {
-        3
-    }
+    figure_len(usize::from(n)) as u8
 }
 
 // Machine m is one of the machines, and an event with this pre-place is on it.
 fn has_move(pre: u8, m: u8, machines: u8) -> bool
     ensures { result ≡ (ltb m machines && ltb pre 64) }
 {
-    if m < machines {
-        wide(pre) < MAX_PLACES
-    } else {
-        false
-    }
+    m < machines && usize::from(pre) < MAX_PLACES
 }
 
 // The moves of event e on the machines. The rows have an entry for each machine that there could be: the loop goes over all of them, and has its counter as a
 // byte too, so that 16 machines are 16 bytes.
-fn event_len(name: usize, pre: &[u8], post: &[u8], e: usize, machines: u8) -> usize
-    requires { (name ≤ 16) × (e < 64) × (machines ≤ 16) × MoveRows pre.now post.now }
-    ensures { (result ≡ event_length name pre.now post.now e machines) × (result ≤ 512) }
+fn event_len(name: usize, moves: &Moves, e: usize, machines: u8) -> usize
+    requires { (name ≤ 16) × (e < 64) × (machines ≤ 16) }
+    ensures { (result ≡ event_length name moves.now.pre moves.now.post e machines) × (result ≤ 512) }
 {
     let from = e * MAX_MACHINES;
-    let mut moves: u8 = 0;
+    let mut count: u8 = 0;
     let mut figures: u8 = 0;
     let mut lane: u8 = 0;
-    let mut m = 0;
-    while m < MAX_MACHINES {
-        let q = pre[from + m];
-        let both = place_len(q) + place_len(post[from + m]);
+    for m in 0..MAX_MACHINES {
+        let q = moves.pre[from + m];
+        let both = place_len(q) + place_len(moves.post[from + m]);
         if has_move(q, lane, machines) {
-            moves += 1;
+            count += 1;
             figures += both;
         }
         lane += 1;
-        m += 1;
     }
-    wide(moves) * (MOVE + name) + wide(figures)
+    usize::from(count) * (MOVE + name) + usize::from(figures)
 }
 
-fn moves_len(lens: &[usize], pre: &[u8], post: &[u8], machines: u8, events: usize) -> usize
-    requires machines_bound { (machines ≤ 16) × (events ≤ 64) × (length lens.now ≡ 64) × MoveRows pre.now post.now }
-    requires by_index { (e : ℕ) → e < events → entry lens.now e ≤ 16 }
-    ensures { (result ≡ moves_length lens.now pre.now post.now machines events) × (result ≤ 32768) }
+// The moves of all events.
+fn moves_len(plan: &Tables, moves: &Moves) -> usize
+    requires { SheetBounds plan.now.counts plan.now.name_len plan.now.sizes plan.now.place }
+    ensures length { result ≡ moves_length plan.now.name_len moves.now.pre moves.now.post plan.now.counts.machines plan.now.counts.events }
+    ensures bound { result ≤ 32768 }
 {
+    let machines = plan.counts.machines as u8;
     let mut total = 0;
-    let mut e = 0;
-    while e < events {
-        total += event_len(lens[e], pre, post, e, machines);
-        e += 1;
+    for e in 0..plan.counts.events {
+        total += event_len(plan.name_len[e], moves, e, machines);
     }
     total
 }
 
-// What the lines of the first n machines have beside moves.
-fn heads_len(sizes: &[usize], place: &[u8], initial: usize, n: usize) -> usize
-    requires initial_bound { (initial < 256) × (n ≤ 16) × (length sizes.now ≡ 16) × (length place.now ≡ 4096) }
-    requires by_index { (k : ℕ) → k < n → entry sizes.now k ≤ 64 }
-    ensures { (result ≡ heads_length sizes.now place.now initial n) × (result ≤ 1024) }
+// What the lines of the machines have beside moves.
+fn heads_len(plan: &Tables) -> usize
+    requires { SheetBounds plan.now.counts plan.now.name_len plan.now.sizes plan.now.place }
+    ensures length { result ≡ heads_length plan.now.sizes plan.now.place plan.now.counts.initial plan.now.counts.machines }
+    ensures bound { result ≤ 1024 }
 {
     let mut total = 0;
-    let mut m = 0;
-    while m < n {
-        let size = figure_len(sizes[m]);
-        let start = figure_len(wide(place[m * MAX_STATES + initial]));
+    for m in 0..plan.counts.machines {
+        let size = figure_len(plan.sizes[m]);
+        let start = figure_len(usize::from(plan.place[m * MAX_STATES + plan.counts.initial]));
         total += MACHINE_LINE + figure_len(m) + size + start;
-        m += 1;
     }
     total
 }
 
 // The whole sheet: its first line, and a line for each machine.
-pub fn sheet_len<'a>(
-    c: Counts,
-    lens: &'a [usize],
-    sizes: &'a [usize],
-    place: &[u8],
-    pre: &[u8],
-    post: &[u8],
-) -> usize
-    requires { SheetBounds c lens.now sizes.now place.now × MoveRows pre.now post.now }
-    ensures { SheetLength c lens.now sizes.now place.now pre.now post.now result }
+pub fn sheet_len(plan: &Tables, moves: &Moves) -> usize
+    requires { SheetBounds plan.now.counts plan.now.name_len plan.now.sizes plan.now.place }
+    ensures { SheetLength plan.now.counts plan.now.name_len plan.now.sizes plan.now.place moves.now.pre moves.now.post result }
 {
-    let machines = c.machines;
-    let events = c.events;
-    let initial = c.initial;
-    let first = FIRST_LINE + figure_len(machines);
-    let heads = heads_len(sizes, place, initial, machines);
-    first + heads + moves_len(lens, pre, post, machines as u8, events)
+    let first = FIRST_LINE + figure_len(plan.counts.machines);
+    first + heads_len(plan) + moves_len(plan, moves)
 }
 
 // ---- bytes
@@ -135,14 +109,8 @@ fn write_copied(word: &[u8], out: &mut [u8], at: usize) -> usize
     ensures { Writes word.now at out.old result out.new }
 {
     let mut copy = [0u8; LONGEST_NAME];
-    write_bytes(word, &mut copy, 0);
+    copy.copy_from_slice(word);
     write_bytes(&copy, out, at)
-}
-
-fn least(a: usize, b: usize) -> usize
-    ensures { (result ≤ a) × (result ≤ b) }
-{
-    if a < b { a } else { b }
 }
 
 // The name that stands at a place of the text, in a sheet of a known size. Where text and sheet go on for it, as many bytes are written as the longest name has:
@@ -158,7 +126,7 @@ fn write_name(
     requires { (len ≤ 16) × (start + len ≤ length text.now) × (at + len ≤ size) × (size ≤ length out.old) }
     ensures { WritesWithin (take len (drop start text.now)) at size out.old result out.new }
 {
-    if least(text.len() - start, size - at) < LONGEST_NAME {
+    if (text.len() - start).min(size - at) < LONGEST_NAME {
         let end = start + len;
         return write_bytes(&text[start..end], out, at);
     }
@@ -173,9 +141,9 @@ fn write_places(pre: u8, post: u8, out: &mut [u8], at: usize) -> usize
     ensures { Writes (places_bytes pre post) at out.old result out.new }
 {
     let a = write_bytes(b" ", out, at);
-    let b = write_figure(wide(pre), out, a);
+    let b = write_figure(usize::from(pre), out, a);
     let c = write_bytes(b" ", out, b);
-    let d = write_figure(wide(post), out, c);
+    let d = write_figure(usize::from(post), out, c);
     write_bytes(b")", out, d)
 }
 
@@ -199,32 +167,37 @@ fn write_move(
 }
 
 // The moves of the events on machine m.
-fn write_moves<'a>(
+fn write_moves(
     text: &[u8],
-    ats: &'a [usize],
-    lens: &'a [usize],
-    pre: &[u8],
-    post: &[u8],
+    plan: &Tables,
+    moves: &Moves,
     m: usize,
-    events: usize,
     out: &mut [u8],
     at: usize,
     size: usize,
 ) -> usize
-    requires m_bound { (m < 16) × (events ≤ 64) × (length ats.now ≡ 64) × (length lens.now ≡ 64) × MoveRows pre.now post.now }
-    requires by_index { ((e : ℕ) → e < events → entry lens.now e ≤ 16) × NamesInside text.now ats.now lens.now events }
-    requires events_bound { (at + length (named_moves text.now ats.now lens.now pre.now post.now m events) ≤ size) × (size ≤ length out.old) }
-    ensures { WritesWithin (named_moves text.now ats.now lens.now pre.now post.now m events) at size out.old result out.new }
+    requires m_bound { (m < 16) × SheetBounds plan.now.counts plan.now.name_len plan.now.sizes plan.now.place }
+    requires inside { NamesInside text.now plan.now.name_at plan.now.name_len plan.now.counts.events }
+    requires events_bound { (at + length (named_moves text.now plan.now.name_at plan.now.name_len moves.now.pre moves.now.post m plan.now.counts.events) ≤ size) × (size ≤ length out.old) }
+    ensures { WritesWithin (named_moves text.now plan.now.name_at plan.now.name_len moves.now.pre moves.now.post m plan.now.counts.events) at size out.old result out.new }
 {
     let mut i = at;
-    let mut e = 0;
-    while e < events {
+    for e in 0..plan.counts.events {
         let k = e * MAX_MACHINES + m;
-        let q = pre[k];
-        if wide(q) < MAX_PLACES {
-            i = write_move(text, ats[e], lens[e], q, post[k], out, i, size);
+        let q = moves.pre[k];
+        if usize::from(q) < MAX_PLACES {
+            let post = moves.post[k];
+            i = write_move(
+                text,
+                plan.name_at[e],
+                plan.name_len[e],
+                q,
+                post,
+                out,
+                i,
+                size,
+            );
         }
-        e += 1;
     }
     i
 }
@@ -239,39 +212,25 @@ fn write_head(m: usize, size: usize, start: u8, out: &mut [u8], at: usize) -> us
     let c = write_bytes(b" (places ", out, b);
     let d = write_figure(size, out, c);
     let e = write_bytes(b") (start ", out, d);
-    let f = write_figure(wide(start), out, e);
+    let f = write_figure(usize::from(start), out, e);
     write_bytes(b")", out, f)
 }
 
 // The whole sheet, at the beginning of the buffer.
-pub fn write_sheet<'a>(
-    text: &[u8],
-    c: Counts,
-    ats: &'a [usize],
-    lens: &'a [usize],
-    sizes: &'a [usize],
-    place: &[u8],
-    pre: &[u8],
-    post: &[u8],
-    out: &mut [u8],
-    size: usize,
-)
-    requires sheet_ready { SheetReady text.now c ats.now lens.now sizes.now place.now pre.now post.now }
-    requires size_value { (size ≡ sheet_size text.now c ats.now lens.now sizes.now place.now pre.now post.now) × (size ≤ length out.old) }
-    ensures { SheetLeft text.now c ats.now lens.now sizes.now place.now pre.now post.now out.old out.new }
+pub fn write_sheet(text: &[u8], plan: &Tables, moves: &Moves, out: &mut [u8], size: usize)
+    requires sheet_ready { SheetReady text.now plan.now.counts plan.now.name_at plan.now.name_len plan.now.sizes plan.now.place moves.now.pre moves.now.post }
+    requires size_value { (size ≡ sheet_size text.now plan.now.counts plan.now.name_at plan.now.name_len plan.now.sizes plan.now.place moves.now.pre moves.now.post) × (size ≤ length out.old) }
+    ensures { SheetLeft text.now plan.now.counts plan.now.name_at plan.now.name_len plan.now.sizes plan.now.place moves.now.pre moves.now.post out.old out.new }
 {
-    let machines = c.machines;
+    let machines = plan.counts.machines;
     let a = write_bytes(b"(accepted ", out, 0);
     let b = write_figure(machines, out, a);
     let mut i = write_bytes(b")\n", out, b);
-    let mut m = 0;
-    while m < machines {
-        let events = c.events;
-        let initial = c.initial;
-        let start = place[m * MAX_STATES + initial];
-        let head = write_head(m, sizes[m], start, out, i);
-        let moves = write_moves(text, ats, lens, pre, post, m, events, out, head, size);
-        i = write_bytes(b")\n", out, moves);
-        m += 1;
+    for m in 0..machines {
+        let initial = plan.counts.initial;
+        let start = plan.place[m * MAX_STATES + initial];
+        let head = write_head(m, plan.sizes[m], start, out, i);
+        let end = write_moves(text, plan, moves, m, out, head, size);
+        i = write_bytes(b")\n", out, end);
     }
 }

@@ -22,8 +22,9 @@ use Rattle.lexer.specs.Words as Words
 use Rattle.rows.specs.Rows.{row}
 use Rattle.regions.specs.Moves.{move_at}
 use Rattle.names.specs.Held.{Finds}
-use Rattle.sheet_lines.specs.declared.MoveWords.{MoveWords}
-use Rattle.sheet_reader.specs.declared.moves.Added.{Added}
+use Rattle.std.specs.Prelude.{Some, None, IfSome, unwrap_or}
+use Rattle.std.specs.Prelude as Std
+use Rattle.sheet_lines.specs.declared.MoveLine.{MoveLine}
 use Rattle.sheet_reader.specs.BoardRows.{Rows, cell, move_in, store_move}
 use Rattle.sheet_reader.specs.Lent.{Lent, lent_rows, rows_of, Held, HoldsRows}
 use Rattle.sheet_reader.specs.Storing.{StoresMove, Leaves, IsWord, move_of, AddsMove}
@@ -121,9 +122,9 @@ each_name ns w r i v j = go (Memᴰ.append_cases ns j)
     go (inl k) = r v k
     go (inr k) = subst IsName (sym (Memᴰ.eq_of_singleton k)) i
 
-module _ (count : ℕ) (t : Lent) (x : MoveWords) (e : ℕ) (pre post : List ℕ) (few : e < 64) where
+module _ (count : ℕ) (t : Lent) (x : MoveLine) (e : ℕ) (pre post : List ℕ) (few : e < 64) where
   abbrev added : Lent
-  added = lent_rows (set t.lens e x.«len») (set t.highs e x.«high») (set t.lows e x.«low») pre post
+  added = lent_rows (set t.lens e x.name.«len») (set t.highs e x.name.«high») (set t.lows e x.name.«low») pre post
 
   held_new : (ns : List Name) (w : Name) → Held ns count t → IsWord x w → e ≡ event_number ns w → count ≤ e → Held (add_name ns w) (count + 1) added
   held_new ns w r i k h = go (looked ns w)
@@ -137,26 +138,28 @@ module _ (count : ℕ) (t : Lent) (x : MoveWords) (e : ℕ) (pre post : List ℕ
               counted = simp length-append (omega (arith, r.packed.counted));
               most = simp length-append (omega arith);
               names = each_name ns w r.packed.names i.name;
-              lengths = row_snoc length ns w e x.«len» t.lens r.packed.lengths (k ∙ a) i.long;
-              high = row_snoc Words.high ns w e x.«high» t.highs r.packed.high (k ∙ a) i.high;
-              low = row_snoc Words.low ns w e x.«low» t.lows r.packed.low (k ∙ a) i.low;
+              lengths = row_snoc length ns w e x.name.«len» t.lens r.packed.lengths (k ∙ a) i.long;
+              high = row_snoc Words.high ns w e x.name.«high» t.highs r.packed.high (k ∙ a) i.high;
+              low = row_snoc Words.low ns w e x.name.«low» t.lows r.packed.low (k ∙ a) i.low;
             };
             once = once_more ns w r.once s;
           })
 
 -- ---- a move by its words
 
-module _ (m n count : ℕ) (t : Lent) (x : MoveWords) where
-  abbrev bad : Added
-  bad = record { good = false; count = count }
+-- the number of a name that is looked up
+pub number_most : {count : ℕ} (r : Std.Option ℕ) → IfSome r (λ k. k < count) → unwrap_or r count ≤ count
+number_most None b = omega arith
+number_most (Some k) b = omega arith
 
-  leaves_none : (o : Option Rows) → o ≡ none → (u : Lent) → Leaves o bad u
+module _ (m n count : ℕ) (t : Lent) (x : MoveLine) where
+  leaves_none : (o : Option Rows) → o ≡ none → (c : ℕ) (u : Lent) → Leaves o false c u
   unfolding Leaves
-  leaves_none o z u = rw z refl
+  leaves_none o z c u = rw z refl
 
-  leaves_some : (o : Option Rows) (v : Rows) → o ≡ some v → (r : Added) (u : Lent) → r.good ≡ true → HoldsRows v r.count u → Leaves o r u
+  leaves_some : (o : Option Rows) (v : Rows) → o ≡ some v → (c : ℕ) (u : Lent) → HoldsRows v c u → Leaves o true c u
   unfolding Leaves
-  leaves_some o v z r u g h = rw z (g, h)
+  leaves_some o v z c u h = rw z (refl, h)
 
   too_many : (ns : List Name) (w : Name) → 64 ≤ event_number ns w → store_move m n (rows_of ns t) (move_of w x) ≡ none
   unfolding store_move
@@ -166,23 +169,23 @@ module _ (m n count : ℕ) (t : Lent) (x : MoveWords) where
       let test = is_good_move n (move_of w x) && (ltb number 64 && free) in
       rw (T_false test (not_T test (λ z. omega (arith, ltb→lt number 64 (and_l (ltb number 64) free (and_r (is_good_move n (move_of w x)) (ltb number 64 && free) z))))))
 
-  module _ (e : ℕ) (f : Finds count t.lens t.highs t.lows x.«len» x.«high» x.«low» e) where
+  module _ {found : Std.Option ℕ} (f : Finds count t.lens t.highs t.lows x.name.«len» x.name.«high» x.name.«low» found) (e : ℕ) (number : e ≡ unwrap_or found count) where
     is : (ns : List Name) (w : Name) → Held ns count t → IsWord x w → e ≡ event_number ns w
-    is ns w r i = f.number ns r.packed w i.name i.long i.high i.low
+    is ns w r i = number ∙ f.number ns r.packed w i.name i.long i.high i.low
 
-    pub adds_full : 64 ≤ e → AddsMove m n count t x bad t
-    adds_full h = record { leaves = λ ns w r i. leaves_none _ (too_many ns w (omega (arith, is ns w r i))) t }
+    pub adds_full : 64 ≤ e → AddsMove m n count t x false count t
+    adds_full h = record { leaves = λ ns w r i. leaves_none _ (too_many ns w (omega (arith, is ns w r i))) count t }
 
     module _ (low : e < 64) {r : Bool} {pre post : List ℕ} (stores : StoresMove m n e x.pre x.post t.pre t.post r pre post) where
-      pub adds_bad : r ≡ false → (u : Lent) → AddsMove m n count t x bad u
-      adds_bad h u = record { leaves = λ ns w z i. leaves_none _ (store_none stores low ns w (is ns w z i) h) u }
+      pub adds_bad : r ≡ false → (c : ℕ) (u : Lent) → AddsMove m n count t x false c u
+      adds_bad h c u = record { leaves = λ ns w z i. leaves_none _ (store_none stores low ns w (is ns w z i) h) c u }
 
-      pub adds_known : r ≡ true → e < count → AddsMove m n count t x (record { good = true; count = count }) (lent_rows t.lens t.highs t.lows pre post)
+      pub adds_known : r ≡ true → e < count → AddsMove m n count t x true count (lent_rows t.lens t.highs t.lows pre post)
       adds_known h b =
           record {
             leaves = λ ns w z i.
                 let k = is ns w z i in
-                leaves_some _ _ (store_some stores low ns w k h) (record { good = true; count = count }) _ refl
+                leaves_some _ _ (store_some stores low ns w k h) count _
                 (record { held = known ns w z k; pre = refl; post = refl });
           }
         where
@@ -191,12 +194,12 @@ module _ (m n count : ℕ) (t : Lent) (x : MoveWords) where
               subst (λ (l : List Name). Held l count (lent_rows t.lens t.highs t.lows pre post)) (sym (name_known ns w (omega (arith, z.packed.counted))))
               (record { packed = z.packed; once = z.once })
 
-      pub adds_new : r ≡ true → count ≤ e → AddsMove m n count t x (record { good = true; count = count + 1 })
-          (lent_rows (set t.lens e x.«len») (set t.highs e x.«high») (set t.lows e x.«low») pre post)
+      pub adds_new : r ≡ true → count ≤ e → AddsMove m n count t x true (count + 1)
+          (lent_rows (set t.lens e x.name.«len») (set t.highs e x.name.«high») (set t.lows e x.name.«low») pre post)
       adds_new h b =
           record {
             leaves = λ ns w z i.
                 let k = is ns w z i in
-                leaves_some _ _ (store_some stores low ns w k h) (record { good = true; count = count + 1 }) _ refl
+                leaves_some _ _ (store_some stores low ns w k h) (count + 1) _
                 (record { held = held_new count t x e pre post low ns w z i k b; pre = refl; post = refl });
           }

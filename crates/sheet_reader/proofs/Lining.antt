@@ -2,7 +2,7 @@
 use Prim.Native.Nat.{ℕ, ◌≤◌, ◌<◌}
 use native.Mathlib.Omega.{arith}
 use mathlib.Core.Path.{◌≡◌, refl, ap, sym, ◌∙◌, subst}
-use mathlib.Core.Bool.{Bool, true, false, not, ◌&&◌}
+use mathlib.Core.Bool.{Bool, true, false, not, ◌&&◌, false≢true}
 use mathlib.Core.List.{List, [], ◌∷◌, ◌++◌, map}
 use mathlib.Core.Option.{Option, none, some}
 use lib.Dec.{T, T_not, eqb, leb, ltb, leb→le, le→leb}
@@ -15,12 +15,12 @@ use Rattle.model.specs.Sheet.{NamedMove, NamedLine, Board, move_form, Head, head
 use Rattle.model.specs.Board.{is_good_move, add_names, names_on, is_good_line}
 use Rattle.model.proofs.Laws.{and_l, and_r, and_i}
 use Rattle.model.proofs.OneEvent.{distinct_apart, apart_distinct}
-use Rattle.sheet_lines.specs.declared.HeadWords.{HeadWords}
-use Rattle.sheet_lines.specs.declared.HeadAt.{HeadAt}
-use Rattle.sheet_lines.specs.declared.HeadAt.TheVariants as H
-use Rattle.sheet_lines.specs.Moves.{as_head}
-use Rattle.sheet_reader.specs.declared.moves.MovesAt.{MovesAt}
-use Rattle.sheet_reader.specs.declared.machine_line.LineAt.{LineAt}
+use Rattle.std.specs.Prelude.{Some, None, Result, Ok, Err}
+use Rattle.std.specs.Prelude as Std
+use Rattle.lexer.proofs.Answers.{word_missing, word_got}
+use Rattle.sheet_lines.specs.declared.HeadLine.{HeadLine}
+use Rattle.sheet_lines.specs.Moves.{head_line, as_head}
+use Rattle.sheet_reader.specs.declared.moves.BadLine.{BadLine}
 use Rattle.sheet_reader.specs.BoardRows.{Rows, store_moves, TellsBoard}
 use Rattle.sheet_reader.specs.Lent.{Lent, rows_of, HoldsRows}
 use Rattle.sheet_reader.specs.Storing.{LeavesMoves, ReadsMoves}
@@ -37,32 +37,24 @@ module _ (s : List ℕ) where
   abbrev rest : Head → ℕ → Parsed NamedLine
   rest h m = after (items move_form s m) (λ xs k. after (lit_bytes (bytes ")\n") s k) (λ _ n. got (line_with h xs) n))
 
-  pub head_missing : {r : HeadAt} (at : ℕ) → r ≡ as_head (head_form s at) → r ≡ H.Missing → line_form s at ≡ fail
+  pub head_missing : {r : Std.Option HeadLine} (at : ℕ) → r ≡ as_head (head_form s at) → r ≡ None → line_form s at ≡ fail
   unfolding line_form as_head
-  head_missing {r} at p q = go (head_form s at) (sym q ∙ p)
-    where
-      go : (o : Parsed Head) → H.Missing ≡ as_head o → after o rest ≡ fail
-      go fail e = refl
-      go (got h n) e = let z : ◌≡◌ {A = ℕ} 0 1 = cc in absurd (omega arith)
+  head_missing at p q = rw (word_missing head_line (head_form s at) p q)
 
-  abbrev pub head_of : HeadWords → Head
+  abbrev pub head_of : HeadLine → Head
   head_of h = record { number = h.number; place_count = h.places; start = h.start }
 
   -- the line after its head: the moves, and its end
-  abbrev pub closed : HeadWords → Parsed NamedLine
+  abbrev pub closed : HeadLine → Parsed NamedLine
   closed h = after (lit_bytes (bytes ")\n") s (many move_form s h.next).1) (λ _ n. got (line_with (head_of h) (many move_form s h.next).0) n)
 
-  pub head_got : {r : HeadAt} {h : HeadWords} (at : ℕ) → r ≡ as_head (head_form s at) → r ≡ H.Found h → line_form s at ≡ closed h
-  unfolding line_form as_head
-  head_got {r} {h} at p q = go (head_form s at) (sym q ∙ p)
-    where
-      go : (o : Parsed Head) → H.Found h ≡ as_head o → after o rest ≡ closed h
-      go fail e = let z : ◌≡◌ {A = ℕ} 0 1 = cc in absurd (omega arith)
-      go (got g n) e =
-          let w : h ≡ record { number = g.number; places = g.place_count; start = g.start; next = n } = cc in
-          sym (ap (λ (x : HeadWords). closed x) w)
+  pub head_got : {r : Std.Option HeadLine} {h : HeadLine} (at : ℕ) → r ≡ as_head (head_form s at) → r ≡ Some h → line_form s at ≡ closed h
+  unfolding line_form as_head head_line
+  head_got at p q =
+      let (g, n, e, w) = word_got head_line (head_form s at) p q in
+      rw e (ap (λ (x : HeadLine). closed x) w)
 
-  line_is : (h : HeadWords) (l : NamedLine) (next : ℕ) → closed h ≡ got l next → l ≡ line_with (head_of h) (many move_form s h.next).0
+  line_is : (h : HeadLine) (l : NamedLine) (next : ℕ) → closed h ≡ got l next → l ≡ line_with (head_of h) (many move_form s h.next).0
   line_is h l next e = go (lit_bytes (bytes ")\n") s (many move_form s h.next).1) e
     where
       go : (o : Parsed (Unit {0})) → after o (λ _ n. got (line_with (head_of h) (many move_form s h.next).0) n) ≡ got l next → l ≡ line_with (head_of h) (many move_form s h.next).0
@@ -71,10 +63,10 @@ module _ (s : List ℕ) where
 
 -- ---- what makes it good
 
-abbrev pub head_test : HeadWords → ℕ → Bool
+abbrev pub head_test : HeadLine → ℕ → Bool
 head_test h m = eqb h.number m && (leb 1 h.places && (leb h.places 64 && ltb h.start h.places))
 
-module _ (b : Board) (h : HeadWords) (xs : List NamedMove) where
+module _ (b : Board) (h : HeadLine) (xs : List NamedMove) where
   abbrev l : NamedLine
   l = record { number = h.number; place_count = h.places; start = h.start; moves = xs }
 
@@ -136,7 +128,7 @@ module _ (b : Board) (h : HeadWords) (xs : List NamedMove) where
       (le→leb (length (names_on (b ++ (l ∷ [])))) 64
       (subst (λ (k : ℕ). k ≤ 64) (ap length (ap (λ (z : List Name). add_names z xs) q ∙ sym (names_last b l xs))) g.few)))))))
 
-pub places_most : (h : HeadWords) (m : ℕ) → head_test h m ≡ true → h.places ≤ 64
+pub places_most : (h : HeadLine) (m : ℕ) → head_test h m ≡ true → h.places ≤ 64
 places_most h m f =
     let g : T (head_test h m) = subst T (sym f) tt in
     let g1 = and_r (eqb h.number m) (leb 1 h.places && (leb h.places 64 && ltb h.start h.places)) g in
@@ -146,86 +138,82 @@ places_most h m f =
 -- ---- the ways out
 
 module _ (s : List ℕ) (at m count : ℕ) (t : Lent) where
-  abbrev pub bad_line : LineAt
-  bad_line = record { good = false; count = 0; start = 0; next = 0 }
+  pub reads_none : line_form s at ≡ fail → {b : BadLine} (c : ℕ) (u : Lent) → ReadsLine s at m count t (Err b) c u
+  reads_none e c u = record { left = λ b k w. bad refl (λ l next p. cc) }
 
-  pub reads_none : line_form s at ≡ fail → (u : Lent) → (r : LineAt) → r ≡ bad_line → ReadsLine s at m count t r u
-  reads_none e u r q =
-      record {
-        left = λ b k w. bad (ap (λ (x : LineAt). x.good) q) (λ l next p. let z : ◌≡◌ {A = ℕ} 0 1 = cc in absurd (omega arith));
-      }
-
-  module _ (h : HeadWords) (e : line_form s at ≡ closed s h) where
+  module _ (h : HeadLine) (e : line_form s at ≡ closed s h) where
     abbrev xs : List NamedMove
     xs = (many move_form s h.next).0
 
-    pub reads_head : head_test h m ≡ false → (u : Lent) → (r : LineAt) → r ≡ bad_line → ReadsLine s at m count t r u
-    reads_head f u r q =
+    pub reads_head : head_test h m ≡ false → {b : BadLine} (c : ℕ) (u : Lent) → ReadsLine s at m count t (Err b) c u
+    reads_head f c u =
         record {
-          left = λ b k w. bad (ap (λ (x : LineAt). x.good) q) (λ l next p g.
+          left = λ b k w. bad refl (λ l next p g.
               T_not (head_test h (length b)) (subst (λ (x : Bool). T (not x)) (sym (subst (λ (i : ℕ). head_test h i ≡ false) k f)) tt)
               (head_part b h xs (subst (λ (x : NamedLine). T (is_good_line b x)) (line_is s h l next (sym e ∙ p)) g)));
         }
 
-    module _ (f : head_test h m ≡ true) (room : m < 16) {r : MovesAt} {u : Lent} (a : ReadsMoves s h.next m h.places count t r u) where
+    module _ (f : head_test h m ≡ true) (room : m < 16) {r : Result ℕ BadLine} {c : ℕ} {u : Lent} (a : ReadsMoves s h.next m h.places count t r c u) where
       stored : (b : Board) → m ≡ length b → (w : Told b count t) → LineStored b (l b h xs) [] h.places w.names xs (store_moves m h.places (rows_of w.names t) xs)
       stored b k w =
           subst (λ (i : ℕ). LineStored b (l b h xs) [] h.places w.names xs (store_moves i h.places (rows_of w.names t) xs)) (sym k)
           (store_line b (l b h xs) (omega arith) h.places (places_most h m f) xs (rows_of w.names t) w.tells)
 
-      pub reads_bad : r.good ≡ false → (q : LineAt) → q ≡ bad_line → ReadsLine s at m count t q u
+      pub reads_bad : {b : BadLine} → r ≡ Err b → ReadsLine s at m count t (Err b) c u
       unfolding LeavesMoves
-      reads_bad n q z =
+      reads_bad n =
           record {
-            left = λ b k w. bad (ap (λ (x : LineAt). x.good) z) (λ l' next p g.
+            left = λ b k w. bad refl (λ l' next p g.
                 go b k w (store_moves m h.places (rows_of w.names t) xs) (a.leaves w.names w.held) (stored b k w)
                 (line_part b h xs w.names w.tells.names (subst (λ (x : NamedLine). T (is_good_line b x)) (line_is s h l' next (sym e ∙ p)) g)));
           }
         where
-          go : (b : Board) → m ≡ length b → (w : Told b count t) → (o : Option Rows) → LeavesMoves o (many move_form s h.next).1 r u
+          go : (b : Board) → m ≡ length b → (w : Told b count t) → (o : Option Rows) → LeavesMoves o (many move_form s h.next).1 r c u
               → LineStored b (l b h xs) [] h.places w.names xs o → Line b (l b h xs) [] h.places w.names xs → ⊥
           go b k w o v (one_stops y x) g = x g
-          go b k w none v (all_fit c y x tl) g = let zz : ◌≡◌ {A = ℕ} 0 1 = cc in omega arith
-          go b k w (some d) v (all_fit c y x tl) g = T_not true (subst (λ (x : Bool). T (not x)) (sym (sym v.0 ∙ n)) tt) tt
+          go b k w none v (all_fit d y x tl) g = cc
+          go b k w (some d) v (all_fit d' y x tl) g = let z = v.0 in cc
 
-      pub reads_open : r.good ≡ true → lit_bytes (bytes ")\n") s r.next ≡ fail → (q : LineAt) → q ≡ bad_line → ReadsLine s at m count t q u
-      unfolding LeavesMoves
-      reads_open n y q z =
-          record {
-            left = λ b k w. bad (ap (λ (x : LineAt). x.good) z) (λ l' next p g.
-                go b k w (store_moves m h.places (rows_of w.names t) xs) (a.leaves w.names w.held) l' next p);
-          }
-        where
-          go : (b : Board) → m ≡ length b → (w : Told b count t) → (o : Option Rows) → LeavesMoves o (many move_form s h.next).1 r u → (l' : NamedLine) (next : ℕ) → line_form s at ≡ got l' next → ⊥
-          go b k w none v l' next p = T_not true (subst (λ (x : Bool). T (not x)) (sym (sym n ∙ v)) tt) tt
-          go b k w (some d) v l' next p =
-              let c : closed s h ≡ fail = ap (λ (i : ℕ). after (lit_bytes (bytes ")\n") s i) (λ _ j. got (line_with (head_of s h) xs) j)) (sym v.2) ∙ ap (λ (o : Parsed (Unit {0})). after o (λ _ j. got (line_with (head_of s h) xs) j)) y in
-              let x : fail ≡ got l' next = sym c ∙ sym e ∙ p in
-              let zz : ◌≡◌ {A = ℕ} 0 1 = cc in omega arith
+      module _ {end : ℕ} (n : r ≡ Ok end) where
+        pub reads_open : lit_bytes (bytes ")\n") s end ≡ fail → {b : BadLine} → ReadsLine s at m count t (Err b) c u
+        unfolding LeavesMoves
+        reads_open y =
+            record {
+              left = λ b k w. bad refl (λ l' next p g.
+                  go b k w (store_moves m h.places (rows_of w.names t) xs) (a.leaves w.names w.held) l' next p);
+            }
+          where
+            go : (b : Board) → m ≡ length b → (w : Told b count t) → (o : Option Rows) → LeavesMoves o (many move_form s h.next).1 r c u → (l' : NamedLine) (next : ℕ) → line_form s at ≡ got l' next → ⊥
+            go b k w none v l' next p = false≢true (rw n at v)
+            go b k w (some d) v l' next p =
+                let same : (many move_form s h.next).1 ≡ end = let z = v.0 in cc in
+                let x : fail ≡ got l' next =
+                sym (ap (λ (i : ℕ). after (lit_bytes (bytes ")\n") s i) (λ _ j. got (line_with (head_of s h) xs) j)) same ∙ ap (λ (o : Parsed (Unit {0})). after o (λ _ j. got (line_with (head_of s h) xs) j)) y) ∙ sym e ∙ p in
+                cc
 
-      pub reads_good : r.good ≡ true → (next : ℕ) → lit_bytes (bytes ")\n") s r.next ≡ got tt next → (q : LineAt) → q ≡ record { good = true; count = r.count; start = h.start; next = next } → ReadsLine s at m count t q u
-      unfolding LeavesMoves
-      reads_good n next y q z =
-          rw z
-          (record {
-            left = λ b k w. go b k w (store_moves m h.places (rows_of w.names t) xs) (a.leaves w.names w.held) (stored b k w);
-          })
-        where
-          go : (b : Board) → m ≡ length b → (w : Told b count t) → (o : Option Rows) → LeavesMoves o (many move_form s h.next).1 r u
-              → LineStored b (l b h xs) [] h.places w.names xs o → LineLeft b (line_form s at) (record { good = true; count = r.count; start = h.start; next = next }) u
-          go b k w none v st = absurd (T_not true (subst (λ (x : Bool). T (not x)) (sym (sym n ∙ v)) tt) tt)
-          go b k w (some d) v (one_stops c x) = let zz : ◌≡◌ {A = ℕ} 0 1 = cc in absurd (omega arith)
-          go b k w (some d) v (all_fit c x g tl) =
-              let dc : d ≡ c = cc in
-              good (l b h xs) refl
-              (e ∙ ap (λ (i : ℕ). after (lit_bytes (bytes ")\n") s i) (λ _ j. got (line_with (head_of s h) xs) j)) (sym v.2) ∙ ap (λ (o : Parsed (Unit {0})). after o (λ _ j. got (line_with (head_of s h) xs) j)) y)
-              (parts_line b h xs w.names w.tells.names (subst (λ (i : ℕ). T (head_test h i)) k (subst T (sym f) tt)) g)
-              a.most refl
-              (record {
-                names = d.names;
-                held = v.1.held;
-                tells = subst (TellsBoard (b ++ (l b h xs ∷ []))) (sym dc ∙ same d v.1) tl;
-              })
-            where
-              same : (d : Rows) → HoldsRows d r.count u → d ≡ rows_of d.names u
-              same d hh = λ i. record { names = d.names; pre = sym hh.pre i; post = sym hh.post i }
+        pub reads_good : (next : ℕ) → lit_bytes (bytes ")\n") s end ≡ got tt next → ReadsLine s at m count t (Ok (record { start = h.start; next = next })) c u
+        unfolding LeavesMoves
+        reads_good next y =
+            record {
+              left = λ b k w. go b k w (store_moves m h.places (rows_of w.names t) xs) (a.leaves w.names w.held) (stored b k w);
+            }
+          where
+            go : (b : Board) → m ≡ length b → (w : Told b count t) → (o : Option Rows) → LeavesMoves o (many move_form s h.next).1 r c u
+                → LineStored b (l b h xs) [] h.places w.names xs o → LineLeft b (line_form s at) (Ok (record { start = h.start; next = next })) c u
+            go b k w none v st = absurd (false≢true (rw n at v))
+            go b k w (some d) v (one_stops q x) = absurd cc
+            go b k w (some d) v (all_fit q x g tl) =
+                let dc : d ≡ q = cc in
+                let last : (many move_form s h.next).1 ≡ end = let z = v.0 in cc in
+                good (l b h xs) (record { start = h.start; next = next }) refl
+                (e ∙ ap (λ (i : ℕ). after (lit_bytes (bytes ")\n") s i) (λ _ j. got (line_with (head_of s h) xs) j)) last ∙ ap (λ (o : Parsed (Unit {0})). after o (λ _ j. got (line_with (head_of s h) xs) j)) y)
+                (parts_line b h xs w.names w.tells.names (subst (λ (i : ℕ). T (head_test h i)) k (subst T (sym f) tt)) g)
+                a.most refl
+                (record {
+                  names = d.names;
+                  held = v.1.held;
+                  tells = subst (TellsBoard (b ++ (l b h xs ∷ []))) (sym dc ∙ same d v.1) tl;
+                })
+              where
+                same : (d : Rows) → HoldsRows d c u → d ≡ rows_of d.names u
+                same d hh = λ i. record { names = d.names; pre = sym hh.pre i; post = sym hh.post i }

@@ -14,21 +14,19 @@ use Rattle.model.specs.Text.{event_number}
 use Rattle.model.specs.Sheet.{NamedMove, written_move, move_form}
 use Rattle.model.specs.Board.{add_name}
 use Rattle.model.proofs.SheetForms.{MoveFormed, move_sound, move_positive}
-use Rattle.lexer.specs.Words as Words
 use Rattle.lexer.proofs.Loops.{Moves, many_more, many_none}
 use Rattle.lexer.proofs.Moves.{moves_written}
 use Rattle.names.proofs.Lookup.{event_number_lem}
 use Rattle.quick_move.specs.Quick as Quick
-use Rattle.sheet_lines.specs.declared.MoveWords.{MoveWords}
-use Rattle.sheet_lines.specs.declared.MoveAt.{MoveAt}
-use Rattle.sheet_lines.specs.declared.MoveAt.TheVariants as M
-use Rattle.sheet_lines.specs.Moves.{as_move}
-use Rattle.sheet_reader.specs.declared.moves.Added.{Added}
-use Rattle.sheet_reader.specs.declared.moves.NextMove.{NextMove}
-use Rattle.sheet_reader.specs.declared.moves.NextMove.TheVariants.{Missing, Bad, Stored}
+use Rattle.std.specs.Prelude.{Some, None, Result, Ok, Err}
+use Rattle.std.specs.Prelude as Std
+use Rattle.lexer.proofs.Answers.{word_missing, word_got}
+use Rattle.sheet_lines.specs.declared.MoveLine.{MoveLine}
+use Rattle.sheet_lines.specs.Moves.{move_line, as_move}
+use Rattle.sheet_reader.specs.declared.moves.BadLine.{BadLine}
 use Rattle.sheet_reader.specs.BoardRows.{Rows, store_move, store_moves}
 use Rattle.sheet_reader.specs.Lent.{Lent, lent_rows, rows_of, Held, Holding, HoldsRows}
-use Rattle.sheet_reader.specs.Storing.{StoresMove, Leaves, IsWord, move_of, AddsMove, MoveLeft, count_in, ReadsMove, LeavesMoves, ReadsMoves}
+use Rattle.sheet_reader.specs.Storing.{StoresMove, Leaves, IsWord, move_of, AddsMove, MoveLeft, ReadsMove, LeavesMoves, ReadsMoves}
 use Rattle.sheet_reader.proofs.Adding.{store_none, store_some, name_known}
 
 not_both : ◌≡◌ {A = Bool} true false → ⊥
@@ -40,64 +38,59 @@ moves_move = moves_written move_form written_move MoveFormed move_sound (λ x o.
 -- ---- a move by its words
 
 -- the move that the code has read
-pub record GotMove (s : List ℕ) (i : ℕ) (x : MoveWords) : Type 0 where
+pub record GotMove (s : List ℕ) (i : ℕ) (x : MoveLine) : Type 0 where
   pub event : Name
   pub word : IsWord x event
   pub read : move_form s i ≡ got (move_of event x) x.next
 
-pub move_missing : {r : MoveAt} (o : Parsed NamedMove) → r ≡ as_move o → r ≡ M.Missing → o ≡ fail
+pub move_missing : {r : Std.Option MoveLine} (o : Parsed NamedMove) → r ≡ as_move o → r ≡ None → o ≡ fail
 unfolding as_move
-move_missing fail p q = refl
-move_missing (got y n) p q = let z : ◌≡◌ {A = ℕ} 0 1 = cc in absurd (omega arith)
+move_missing = word_missing move_line
 
-pub move_got : {r : MoveAt} {x : MoveWords} (s : List ℕ) (i : ℕ) → r ≡ as_move (move_form s i) → r ≡ M.Found x → GotMove s i x
-unfolding as_move
-move_got {r} {x} s i p q = go (move_form s i) refl (sym q ∙ p)
-  where
-    go : (o : Parsed NamedMove) → move_form s i ≡ o → M.Found x ≡ as_move o → GotMove s i x
-    go fail e h = let z : ◌≡◌ {A = ℕ} 0 1 = cc in absurd (omega arith)
-    go (got y n) e h =
-        let w : x ≡ record { «len» = length y.event; «high» = Words.high y.event; «low» = Words.low y.event; pre = y.pre; post = y.post; next = n } = cc in
-        record {
-          event = y.event;
-          word = record {
-            name = (move_sound s i y n e).0.event;
-            long = ap (λ (v : MoveWords). v.«len») w;
-            high = ap (λ (v : MoveWords). v.«high») w;
-            low = ap (λ (v : MoveWords). v.«low») w;
-          };
-          read = e ∙ ap (λ (v : MoveWords). got (record { event = y.event; pre = v.pre; post = v.post }) v.next) (sym w);
-        }
+pub move_got : {r : Std.Option MoveLine} {x : MoveLine} (s : List ℕ) (i : ℕ) → r ≡ as_move (move_form s i) → r ≡ Some x → GotMove s i x
+unfolding as_move move_line
+move_got s i p q =
+    let (y, n, e, h) = word_got move_line (move_form s i) p q in
+    record {
+      event = y.event;
+      word = record {
+        name = (move_sound s i y n e).0.event;
+        long = ap (λ (v : MoveLine). v.name.«len») (sym h);
+        high = ap (λ (v : MoveLine). v.name.«high») (sym h);
+        low = ap (λ (v : MoveLine). v.name.«low») (sym h);
+      };
+      read = e ∙ ap (λ (v : MoveLine). got (record { event = y.event; pre = v.pre; post = v.post }) v.next) h;
+    }
 
 module _ {s : List ℕ} {at m n count : ℕ} {t : Lent} where
-  pub words_missing : move_form s at ≡ fail → ReadsMove s at m n count t Missing t
-  unfolding MoveLeft count_in
-  words_missing e = record { most = omega arith; left = λ ns h. (e, record { held = h; pre = refl; post = refl }) }
+  pub words_missing : count ≤ 64 → move_form s at ≡ fail → ReadsMove s at m n count t (Ok None) count t
+  unfolding MoveLeft
+  words_missing few e = record { most = few; left = λ ns h. (e, record { held = h; pre = refl; post = refl }) }
 
-  module _ {x : MoveWords} (g : GotMove s at x) {r : Added} {u : Lent} (a : AddsMove m n count t x r u) where
-    pub words_bad : r.good ≡ false → ReadsMove s at m n count t Bad u
-    unfolding MoveLeft count_in Leaves
+  module _ {x : MoveLine} (g : GotMove s at x) {r : Bool} {c : ℕ} {u : Lent} (a : AddsMove m n count t x r c u) (most : c ≤ 64) where
+    pub words_bad : {b : BadLine} → r ≡ false → ReadsMove s at m n count t (Err b) c u
+    unfolding MoveLeft Leaves
     words_bad f =
-        record {
-          most = omega arith;
-          left = λ ns h. go ns (store_move m n (rows_of ns t) (move_of g.event x)) refl (a.leaves ns g.event h g.word);
-        }
-      where
-        go : (ns : List Name) (o : Option Rows) → store_move m n (rows_of ns t) (move_of g.event x) ≡ o → Leaves o r u
-            → (y : NamedMove) × (next : ℕ) × (move_form s at ≡ got y next) × (store_move m n (rows_of ns t) y ≡ none)
-        go ns none q l = (move_of g.event x, x.next, g.read, q)
-        go ns (some v) q l = absurd (not_both (sym l.0 ∙ f))
-
-    pub words_stored : r.good ≡ true → r.count ≤ 64 → ReadsMove s at m n count t (Stored r.count x.next) u
-    unfolding MoveLeft count_in Leaves
-    words_stored f most =
         record {
           most = most;
           left = λ ns h. go ns (store_move m n (rows_of ns t) (move_of g.event x)) refl (a.leaves ns g.event h g.word);
         }
       where
-        go : (ns : List Name) (o : Option Rows) → store_move m n (rows_of ns t) (move_of g.event x) ≡ o → Leaves o r u
-            → (y : NamedMove) × (w : Rows) × (move_form s at ≡ got y x.next) × (store_move m n (rows_of ns t) y ≡ some w) × HoldsRows w r.count u
+        go : (ns : List Name) (o : Option Rows) → store_move m n (rows_of ns t) (move_of g.event x) ≡ o → Leaves o r c u
+            → (y : NamedMove) × (next : ℕ) × (move_form s at ≡ got y next) × (store_move m n (rows_of ns t) y ≡ none)
+        go ns none q l = (move_of g.event x, x.next, g.read, q)
+        go ns (some v) q l = absurd (not_both (sym l.0 ∙ f))
+
+    pub words_stored : r ≡ true → ReadsMove s at m n count t (Ok (Some x.next)) c u
+    unfolding MoveLeft Leaves
+    words_stored f =
+        record {
+          most = most;
+          left = λ ns h. go ns (store_move m n (rows_of ns t) (move_of g.event x)) refl (a.leaves ns g.event h g.word);
+        }
+      where
+        go : (ns : List Name) (o : Option Rows) → store_move m n (rows_of ns t) (move_of g.event x) ≡ o → Leaves o r c u
+            → (y : NamedMove) × (w : Rows) × (move_form s at ≡ got y x.next) × (store_move m n (rows_of ns t) y ≡ some w) × HoldsRows w c u
         go ns none q l = absurd (not_both (sym f ∙ l))
         go ns (some v) q l = (move_of g.event x, v, g.read, q, l.1)
 
@@ -111,16 +104,16 @@ module _ {s : List ℕ} {at m n count : ℕ} {t : Lent} where
     own : (ns : List Name) → Held ns count t → (w : Name) → OneEvent w (get_or ns k []) → k ≡ event_number ns w
     own ns h w o = sym (event_number_lem ns k (omega (arith, g.event, h.packed.counted)) h.once w o)
 
-    pub quick_bad : r ≡ false → (u : Lent) → ReadsMove s at m n count t Bad u
-    unfolding MoveLeft count_in
+    pub quick_bad : {b : BadLine} → r ≡ false → (u : Lent) → ReadsMove s at m n count t (Err b) count u
+    unfolding MoveLeft
     quick_bad f u =
         record {
-          most = omega arith;
+          most = few;
           left = λ ns h. let (w, o, read) = g.move ns h.packed in (record { event = w; pre = p; post = q }, next, read, store_none a low ns w (own ns h w o) f);
         }
 
-    pub quick_stored : r ≡ true → ReadsMove s at m n count t (Stored count next) (lent_rows t.lens t.highs t.lows pre post)
-    unfolding MoveLeft count_in
+    pub quick_stored : r ≡ true → ReadsMove s at m n count t (Ok (Some next)) count (lent_rows t.lens t.highs t.lows pre post)
+    unfolding MoveLeft
     quick_stored f =
         record {
           most = few;
@@ -154,30 +147,31 @@ pub record Moving (s : List ℕ) (at m n count : ℕ) (t : Lent) (i c : ℕ) (u 
 pub moving_start : {s : List ℕ} {at m n count : ℕ} {t : Lent} → count ≤ 64 → Holding count t → Moving s at m n count t at count t
 moving_start {t = t} h k = record { most = h; holding = k; held = λ ns r. (rows_of ns t, record { held = r; pre = refl; post = refl }, refl, refl) }
 
-module _ {s : List ℕ} {at m n count : ℕ} {t : Lent} {i c : ℕ} {u : Lent} (inv : Moving s at m n count t i c u) {r : NextMove} {w : Lent} (a : ReadsMove s i m n c u r w) where
+module _ {s : List ℕ} {at m n count : ℕ} {t : Lent} {i c : ℕ} {u : Lent} (inv : Moving s at m n count t i c u) {r : Result (Std.Option ℕ) BadLine} {d : ℕ} {w : Lent}
+    (a : ReadsMove s i m n c u r d w) where
   -- what is there, by the names and moves that the rows hold
-  found : (q : NextMove) → r ≡ q → (v : Rows) → HoldsRows v c u → MoveLeft (move_form s i) m n v c q w
+  found : (q : Result (Std.Option ℕ) BadLine) → r ≡ q → (v : Rows) → HoldsRows v c u → MoveLeft (move_form s i) m n v q d w
   found q e v h =
       let same : rows_of v.names u ≡ v = λ j. record { names = v.names; pre = h.pre j; post = h.post j } in
-      subst (λ (z : Rows). MoveLeft (move_form s i) m n z c q w) same
-      (subst (λ (z : NextMove). MoveLeft (move_form s i) m n (rows_of v.names u) c z w) e (a.left v.names h.held))
+      subst (λ (z : Rows). MoveLeft (move_form s i) m n z q d w) same
+      (subst (λ (z : Result (Std.Option ℕ) BadLine). MoveLeft (move_form s i) m n (rows_of v.names u) z d w) e (a.left v.names h.held))
 
   -- by those that they hold for certain
-  here : (q : NextMove) → r ≡ q → MoveLeft (move_form s i) m n (rows_of inv.holding.names u) c q w
+  here : (q : Result (Std.Option ℕ) BadLine) → r ≡ q → MoveLeft (move_form s i) m n (rows_of inv.holding.names u) q d w
   here q e = found q e (rows_of inv.holding.names u) (record { held = inv.holding.held; pre = refl; post = refl })
 
-  pub moving_end : r ≡ Missing → ReadsMoves s at m n count t (record { good = true; count = c; next = i }) w
+  pub moving_end : r ≡ Ok None → ReadsMoves s at m n count t (Ok i) d w
   unfolding LeavesMoves store_moves MoveLeft
   moving_end e =
       record {
-        most = inv.most;
+        most = a.most;
         leaves = λ ns h.
             let (v, o, p, q) = inv.held ns h in
-            let (z, k) = found Missing e v o in
+            let (z, k) = found (Ok None) e v o in
             let y = many_none moves_move s i z in
-            subst (λ (x : Option Rows). LeavesMoves x (many move_form s at).1 (record { good = true; count = c; next = i }) w)
+            subst (λ (x : Option Rows). LeavesMoves x (many move_form s at).1 (Ok i) d w)
             (sym (p ∙ ap (λ (x : List NamedMove × ℕ). store_moves m n v x.0) y))
-            (refl, k, sym (q ∙ ap (λ (x : List NamedMove × ℕ). x.1) y));
+            (ap Ok (sym (q ∙ ap (λ (x : List NamedMove × ℕ). x.1) y)), k);
       }
 
   -- what is stored from here on
@@ -186,34 +180,34 @@ module _ {s : List ℕ} {at m n count : ℕ} {t : Lent} {i c : ℕ} {u : Lent} (
   unfolding store_moves
   from_here v x next e = ap (λ (p : List NamedMove × ℕ). store_moves m n v p.0) (many_more moves_move s i x next e)
 
-  pub moving_bad : r ≡ Bad → ReadsMoves s at m n count t (record { good = false; count = 0; next = 0 }) w
+  pub moving_bad : {b : BadLine} → r ≡ Err b → ReadsMoves s at m n count t (Err b) d w
   unfolding LeavesMoves MoveLeft and_then
-  moving_bad e =
+  moving_bad {b} e =
       record {
-        most = omega arith;
+        most = a.most;
         leaves = λ ns h.
             let (v, o, p, q) = inv.held ns h in
-            let (x, next, f, y) = found Bad e v o in
-            subst (λ (z : Option Rows). LeavesMoves z (many move_form s at).1 (record { good = false; count = 0; next = 0 }) w)
+            let (x, next, f, y) = found (Err b) e v o in
+            subst (λ (z : Option Rows). LeavesMoves z (many move_form s at).1 (Err b) d w)
             (sym (p ∙ from_here v x next f ∙ ap (λ (z : Option Rows). and_then z (λ z. store_moves m n z (many move_form s next).0)) y))
             refl;
       }
 
-  module _ {k next : ℕ} (e : r ≡ Stored k next) where
+  module _ {next : ℕ} (e : r ≡ Ok (Some next)) where
     pub move_on_lem : (i < next) × (next ≤ length s)
     unfolding MoveLeft
-    move_on_lem = let (x, v, f, y, h) = here (Stored k next) e in moves_move.on s i x next f
+    move_on_lem = let (x, v, f, y, h) = here (Ok (Some next)) e in moves_move.on s i x next f
 
-    pub moving_more : Moving s at m n count t next k w
-    unfolding MoveLeft and_then count_in
+    pub moving_more : Moving s at m n count t next d w
+    unfolding MoveLeft and_then
     moving_more =
-        let (x₀, v₀, f₀, y₀, h₀) = here (Stored k next) e in
+        let (x₀, v₀, f₀, y₀, h₀) = here (Ok (Some next)) e in
         record {
-          most = subst (λ (z : NextMove). count_in z ≤ 64) e a.most;
+          most = a.most;
           holding = record { names = v₀.names; held = h₀.held };
           held = λ ns h.
               let (v, o, p, q) = inv.held ns h in
-              let (x, z, f, y, l) = found (Stored k next) e v o in (
+              let (x, z, f, y, l) = found (Ok (Some next)) e v o in (
                 z,
                 l,
                 p ∙ from_here v x next f ∙ ap (λ (j : Option Rows). and_then j (λ z. store_moves m n z (many move_form s next).0)) y,

@@ -1,11 +1,11 @@
 -- The whole sheet: the loop's invariant and its ways out.
 use Prim.Native.Nat.{ℕ, zero, suc, ◌+◌, ◌-◌, ◌≤◌, ◌<◌}
 use native.Mathlib.Omega.{arith}
-use mathlib.Core.Path.{◌≡◌, refl, ap, sym, ◌∙◌, subst}
-use mathlib.Core.Bool.{Bool, true, false, not, ◌&&◌}
+use mathlib.Core.Path.{◌≡◌, refl, ap, sym, ◌∙◌}
+use mathlib.Core.Bool.{false, ◌&&◌, false≢true}
 use mathlib.Core.List.{List, [], ◌∷◌, ◌++◌, map, flat_map}
 use mathlib.Core.Option.{none, none-ne-some}
-use lib.Dec.{T, T_not, leb, ltb, ltb→lt, leb→le, le→leb, eqb}
+use lib.Dec.{T, leb, ltb, ltb→lt, leb→le, le→leb, eqb}
 use lib.ListN.{length, get_or, set, replicate, length-append, length-map, length-replicate}
 use lib.Seq.{sets}
 use Rattle.model.specs.Lists.{every}
@@ -18,12 +18,18 @@ use Rattle.model.proofs.Laws.{T_true, T_false, not_T, and_l, and_r}
 use Rattle.model.proofs.ListLaws.{map_append, sets_snoc}
 use Rattle.rows.specs.Rows.{row}
 use Rattle.sheet_reader.specs.declared.machine_line.LineAt.{LineAt}
-use Rattle.sheet_reader.specs.declared.SheetRead.TheVariants.{Bad, Read}
+use Rattle.std.specs.Prelude.{Result, Ok, Err}
+use Rattle.model.specs.declared.Refusal.TheVariants.{BadSheet}
+use Rattle.sheet_reader.specs.declared.moves.BadLine.{BadLine}
 use Rattle.regions.specs.Moves.{move_at}
 use Rattle.sheet_reader.specs.BoardRows.{cell, move_in}
-use Rattle.sheet_reader.specs.Lent.{Lent, lent_rows, rows_of, Holding}
+use Rattle.sheet_reader.specs.Lent.{Lent, rows_of, Holding}
 use Rattle.sheet_reader.specs.Lines.{Told, LineLeft, good, bad, ReadsLine}
-use Rattle.sheet_reader.specs.Sheets.{FreshBoard, SheetLeft, ReadsSheet}
+use Rattle.names.specs.declared.Names.{Names}
+use Rattle.names.specs.Held.{no_names}
+use Rattle.rows.specs.declared.Moves.{Moves}
+use Rattle.rows.specs.Tables.{NoMoves}
+use Rattle.sheet_reader.specs.Sheets.{FreshBoard, FreshSheet, SheetLeft, ReadsSheet}
 
 -- ---- fresh rows
 
@@ -60,9 +66,13 @@ module _ (t : Lent) (ps : List ℕ) (f : FreshBoard t ps) where
 
 -- ---- the loop
 
-pub fresh_board : FreshBoard (lent_rows (replicate 64 0) (replicate 64 0) (replicate 64 0) (replicate 1024 255) (replicate 1024 0)) (replicate 16 0)
+pub fresh_sheet : {names : Names} {moves : Moves} → names ≡ no_names → NoMoves moves → FreshSheet (record { names = names; moves = moves; starts = replicate 16 0 })
 unfolding row
-fresh_board = record { lens = refl; highs = refl; lows = refl; pre = refl; post_size = length-replicate {A = ℕ} 1024 0; places = refl }
+fresh_sheet {names} {moves} e m =
+    rw e (record {
+      no_names = refl;
+      rows = record { lens = refl; highs = refl; lows = refl; pre = m.pre; post_size = ap length m.post ∙ length-replicate {A = ℕ} 1024 0; places = refl };
+    })
 
 pub told_holding : {b : Board} {count : ℕ} {t : Lent} → Told b count t → Holding count t
 told_holding w = record { names = w.names; held = w.held }
@@ -78,9 +88,9 @@ pub record Lining (s : List ℕ) (n c i k : ℕ) (u : Lent) (ps : List ℕ) : Ty
   pub places : ps ≡ row 16 0 (start_places board)
   pub goes : read_sheet s ≡ machines_from (n - k) s board i
 
-pub lining_start : (s : List ℕ) (t : Lent) (ps : List ℕ) → FreshBoard t ps → length s ≤ 32768 → (n i : ℕ) → count_form s 0 ≡ got n i → 1 ≤ n → n ≤ 16 → Lining s n 0 i 0 t ps
+pub lining_start : (s : List ℕ) (c : ℕ) (t : Lent) (ps : List ℕ) → c ≡ 0 → FreshBoard t ps → length s ≤ 32768 → (n i : ℕ) → count_form s 0 ≡ got n i → 1 ≤ n → n ≤ 16 → Lining s n c i 0 t ps
 unfolding read_sheet count_then start_places
-lining_start s t ps f h n i e a b =
+lining_start s c t ps none_yet f h n i e a b =
     let z : n - 0 ≡ n = omega arith in
     record {
       board = [];
@@ -88,30 +98,30 @@ lining_start s t ps f h n i e a b =
       within = omega arith;
       most = b;
       few = omega arith;
-      told = fresh_told t ps f;
+      told = rw none_yet (fresh_told t ps f);
       places = f.places;
       goes = rw (T_true (leb (length s) 32768) (le→leb (length s) 32768 h), e, T_true (leb 1 n) (le→leb 1 n a), T_true (leb n 16) (le→leb n 16 b), z);
     }
 
 -- before the lines of the machines
-pub sheet_long : (s : List ℕ) (u : Lent) (ps : List ℕ) → 32768 < length s → ReadsSheet s (Bad 0) u ps
+pub sheet_long : (s : List ℕ) (c : ℕ) (u : Lent) (ps : List ℕ) → 32768 < length s → ReadsSheet s (Err (BadSheet 0)) c u ps
 unfolding read_sheet SheetLeft
-sheet_long s u ps h =
+sheet_long s c u ps h =
     let z : leb (length s) 32768 ≡ false = T_false (leb (length s) 32768) (not_T (leb (length s) 32768) (λ t. omega (arith, leb→le (length s) 32768 t))) in
     record { left = rw z (0, refl, refl) }
 
-module _ (s : List ℕ) (u : Lent) (ps : List ℕ) (h : length s ≤ 32768) where
-  pub count_none : count_form s 0 ≡ fail → ReadsSheet s (Bad 1) u ps
+module _ (s : List ℕ) (c : ℕ) (u : Lent) (ps : List ℕ) (h : length s ≤ 32768) where
+  pub count_none : count_form s 0 ≡ fail → ReadsSheet s (Err (BadSheet 1)) c u ps
   unfolding read_sheet count_then SheetLeft
   count_none e = record { left = rw (T_true (leb (length s) 32768) (le→leb (length s) 32768 h), e) (1, refl, refl) }
 
-  pub count_low : (n i : ℕ) → count_form s 0 ≡ got n i → n < 1 → ReadsSheet s (Bad 1) u ps
+  pub count_low : (n i : ℕ) → count_form s 0 ≡ got n i → n < 1 → ReadsSheet s (Err (BadSheet 1)) c u ps
   unfolding read_sheet count_then SheetLeft
   count_low n i e a =
       let z : leb 1 n ≡ false = T_false (leb 1 n) (not_T (leb 1 n) (λ t. omega (arith, leb→le 1 n t))) in
       record { left = rw (T_true (leb (length s) 32768) (le→leb (length s) 32768 h), e, z) (1, refl, refl) }
 
-  pub count_high : (n i : ℕ) → count_form s 0 ≡ got n i → 1 ≤ n → 16 < n → ReadsSheet s (Bad 1) u ps
+  pub count_high : (n i : ℕ) → count_form s 0 ≡ got n i → 1 ≤ n → 16 < n → ReadsSheet s (Err (BadSheet 1)) c u ps
   unfolding read_sheet count_then SheetLeft
   count_high n i e b a =
       let z : leb n 16 ≡ false = T_false (leb n 16) (not_T (leb n 16) (λ t. omega (arith, leb→le n 16 t))) in
@@ -138,74 +148,77 @@ unfolding machine_then
 bad_next s b fail m h = refl
 bad_next s b (got l next) m h = rw (T_false (is_good_line b l) (not_T (is_good_line b l) (h l next refl)))
 
-true_false : {b : Bool} → b ≡ true → b ≡ false → ⊥
-true_false p q = T_not true (subst (λ (x : Bool). T (not x)) (sym (sym p ∙ q)) tt) tt
-
 module _ {s : List ℕ} {n c i k : ℕ} {u : Lent} {ps : List ℕ} (inv : Lining s n c i k u ps) where
-  module _ (low : k < n) {r : LineAt} {w : Lent} (a : ReadsLine s i k c u r w) where
-    next_line_lem : LineLeft inv.board (line_form s i) r w
+  module _ (low : k < n) {r : Result LineAt BadLine} {d : ℕ} {w : Lent} (a : ReadsLine s i k c u r d w) where
+    next_line_lem : LineLeft inv.board (line_form s i) r d w
     next_line_lem = a.left inv.board (sym inv.counted) inv.told
 
     goes_on : read_sheet s ≡ machine_then inv.board (line_form s i) (machines_from (n - (k + 1)) s)
     unfolding machines_from
     goes_on = let z : n - k ≡ suc (n - (k + 1)) = omega arith in inv.goes ∙ ap (λ (m : ℕ). machines_from m s inv.board i) z
 
-    pub lining_bad : r.good ≡ false → (qs : List ℕ) → ReadsSheet s (Bad (k + 2)) w qs
+    pub lining_bad : {b : BadLine} → r ≡ Err b → (x : ℕ) (qs : List ℕ) → ReadsSheet s (Err (BadSheet (k + 2))) x w qs
     unfolding SheetLeft
-    lining_bad f qs = go next_line_lem
+    lining_bad f x qs = go next_line_lem
       where
-        go : LineLeft inv.board (line_form s i) r w → ReadsSheet s (Bad (k + 2)) w qs
-        go (good l g e t m q d) = absurd (true_false g f)
+        go : LineLeft inv.board (line_form s i) r d w → ReadsSheet s (Err (BadSheet (k + 2))) x w qs
+        go (good l y g e t m q v) = absurd cc
         go (bad g h) =
             let z : read_sheet s ≡ refused (refuse 15 (length inv.board + 2) 0) = goes_on ∙ bad_next s inv.board (line_form s i) (n - (k + 1)) h in
             record { left = rw z (k + 2, refl, ap (λ (x : ℕ). refuse 15 (x + 2) 0) inv.counted) }
 
-    pub start_byte : r.good ≡ true → r.start < 256
-    start_byte f = go next_line_lem
-      where
-        go : LineLeft inv.board (line_form s i) r w → r.start < 256
-        go (good l g e t m q d) = omega (arith, start_low inv.board l t, q)
-        go (bad g h) = absurd (true_false f g)
+    module _ {x : LineAt} (f : r ≡ Ok x) where
+      pub start_byte : x.start < 256
+      start_byte = go next_line_lem
+        where
+          go : LineLeft inv.board (line_form s i) r d w → x.start < 256
+          go (good l y g e t m q v) = let z : y.start ≡ x.start = cc in omega (arith, start_low inv.board l t, q)
+          go (bad g h) = absurd (false≢true (rw f at g))
 
-    pub lining_more : r.good ≡ true → (v : ℕ) → v ≡ r.start → Lining s n r.count r.next (k + 1) w (set ps k v)
-    unfolding machine_then start_places row
-    lining_more f v y = go next_line_lem
-      where
-        go : LineLeft inv.board (line_form s i) r w → Lining s n r.count r.next (k + 1) w (set ps k v)
-        go (bad g h) = absurd (true_false f g)
-        go (good l g e t m q d) =
-            record {
-              board = inv.board ++ (l ∷ []);
-              counted = simp length-append (omega (arith, inv.counted));
-              within = omega arith;
-              most = inv.most;
-              few = m;
-              told = d;
-              places = stored;
-              goes = goes_on ∙ rw (e, T_true (is_good_line inv.board l) t);
-            }
-          where
-            stored : set ps k v ≡ sets (replicate 16 0) 0 (map (λ (x : NamedLine). x.start) (inv.board ++ (l ∷ [])))
-            stored =
-                let z : 0 + length (map (λ (x : NamedLine). x.start) inv.board) ≡ k = omega (arith, length-map inv.board (λ (x : NamedLine). x.start), inv.counted) in
-                rw (inv.places, y, q, ← z)
-                (sym (sets_snoc (replicate 16 0) 0 (map (λ (x : NamedLine). x.start) inv.board) l.start)
-                ∙ ap (sets (replicate 16 0) 0) (sym (map_append (λ (x : NamedLine). x.start) inv.board (l ∷ []))))
+      pub lining_more : Lining s n d x.next (k + 1) w (set ps k x.start)
+      unfolding machine_then start_places row
+      lining_more = go next_line_lem
+        where
+          go : LineLeft inv.board (line_form s i) r d w → Lining s n d x.next (k + 1) w (set ps k x.start)
+          go (bad g h) = absurd (false≢true (rw f at g))
+          go (good l y g e t m q v) =
+              record {
+                board = inv.board ++ (l ∷ []);
+                counted = simp length-append (omega (arith, inv.counted));
+                within = omega arith;
+                most = inv.most;
+                few = m;
+                told = v;
+                places = stored;
+                goes = goes_on ∙ rw (e, T_true (is_good_line inv.board l) t, same);
+              }
+            where
+              same : y ≡ x
+              same = cc
+
+              stored : set ps k x.start ≡ sets (replicate 16 0) 0 (map (λ (x : NamedLine). x.start) (inv.board ++ (l ∷ [])))
+              stored =
+                  let z : 0 + length (map (λ (x : NamedLine). x.start) inv.board) ≡ k = omega (arith, length-map inv.board (λ (x : NamedLine). x.start), inv.counted) in
+                  rw (inv.places, ← same, q, ← z)
+                  (sym (sets_snoc (replicate 16 0) 0 (map (λ (x : NamedLine). x.start) inv.board) l.start)
+                  ∙ ap (sets (replicate 16 0) 0) (sym (map_append (λ (x : NamedLine). x.start) inv.board (l ∷ []))))
 
   module _ (high : n ≤ k) where
     ended : read_sheet s ≡ (need (refuse 15 (length inv.board + 2) 0) (leb (length s) i) >> passed inv.board)
     unfolding machines_from
     ended = let z : n - k ≡ 0 = omega arith in inv.goes ∙ ap (λ (m : ℕ). machines_from m s inv.board i) z
 
-    pub lining_rest : i < length s → ReadsSheet s (Bad (k + 2)) u ps
+    pub lining_rest : i < length s → ReadsSheet s (Err (BadSheet (n + 2))) c u ps
     unfolding SheetLeft
     lining_rest h =
         let z : leb (length s) i ≡ false = T_false (leb (length s) i) (not_T (leb (length s) i) (λ t. omega (arith, leb→le (length s) i t))) in
-        record { left = rw (ended, z) (k + 2, refl, ap (λ (x : ℕ). refuse 15 (x + 2) 0) inv.counted) }
+        let all : length inv.board ≡ n = omega (arith, inv.counted, inv.within) in
+        record { left = rw (ended, z) (n + 2, refl, ap (λ (x : ℕ). refuse 15 (x + 2) 0) all) }
 
-    pub lining_end : length s ≤ i → ReadsSheet s (Read k c) u ps
+    pub lining_end : length s ≤ i → ReadsSheet s (Ok n) c u ps
     unfolding SheetLeft
     lining_end h =
+        let all : length inv.board ≡ n = omega (arith, inv.counted, inv.within) in
         record {
-          left = rw (ended, T_true (leb (length s) i) (le→leb (length s) i h)) (c, ap (λ (x : ℕ). Read x c) (sym inv.counted), omega (arith, inv.counted, inv.within, inv.most), inv.few, inv.told, inv.places);
+          left = rw (ended, T_true (leb (length s) i) (le→leb (length s) i h)) (ap Ok (sym all), omega (arith, inv.counted, inv.within, inv.most), inv.few, inv.told, inv.places);
         }

@@ -2,7 +2,9 @@
 use Rattle.std.specs.Prelude.{ℕ, ◌≡◌, List, T}
 use Rattle.model.specs.Bytes.{Name}
 use Rattle.model.specs.Text.{distinct}
+use Rattle.names.specs.declared.Names.{Names}
 use Rattle.names.specs.Held.{PackedNames}
+use Rattle.rows.specs.declared.Moves.{Moves}
 use Rattle.sheet_reader.specs.BoardRows.{Rows}
 
 pub record Lent : Type 0 where
@@ -14,6 +16,9 @@ pub record Lent : Type 0 where
 
 abbrev pub lent_rows : List ℕ → List ℕ → List ℕ → List ℕ → List ℕ → Lent
 lent_rows a b c d e = record { lens = a; highs = b; lows = c; pre = d; post = e }
+
+abbrev pub lent : Names → Moves → Lent
+lent n v = lent_rows n.«len» n.high n.low v.pre v.post
 
 abbrev pub rows_of : List Name → Lent → Rows
 rows_of ns t = record { names = ns; pre = t.pre; post = t.post }

@@ -1,10 +1,11 @@
 -- What reading a machine's line leaves in the rows.
-use Rattle.std.specs.Prelude.{ℕ, ◌≤◌, ◌≡◌, true, false, List, [], ◌∷◌, ◌++◌, T, length}
+use Rattle.std.specs.Prelude.{ℕ, ◌≤◌, ◌≡◌, List, [], ◌∷◌, ◌++◌, T, length, Result, Ok, IsErr}
 use Rattle.model.specs.Bytes.{Name}
 use Rattle.model.specs.Reading.{Parsed, got}
 use Rattle.model.specs.Sheet.{NamedLine, Board, line_form}
 use Rattle.model.specs.Board.{is_good_line}
 use Rattle.sheet_reader.specs.declared.machine_line.LineAt.{LineAt}
+use Rattle.sheet_reader.specs.declared.moves.BadLine.{BadLine}
 use Rattle.sheet_reader.specs.BoardRows.{TellsBoard}
 use Rattle.sheet_reader.specs.Lent.{Lent, rows_of, Held}
 
@@ -14,11 +15,11 @@ pub record Told (b : Board) (count : ℕ) (t : Lent) : Type 0 where
   pub held : Held names count t
   pub tells : TellsBoard b (rows_of names t)
 
--- a good line stands there, or none
-pub data LineLeft (b : Board) (o : Parsed NamedLine) (r : LineAt) (u : Lent) : Type 0 where
-  good : (l : NamedLine) → r.good ≡ true → o ≡ got l r.next → T (is_good_line b l) → r.count ≤ 64 → r.start ≡ l.start → Told (b ++ (l ∷ [])) r.count u
-      → LineLeft b o r u
-  bad : r.good ≡ false → ((l : NamedLine) (next : ℕ) → o ≡ got l next → ¬ T (is_good_line b l)) → LineLeft b o r u
+-- a good line stands there, or none; c entries of the rows hold names then
+pub data LineLeft (b : Board) (o : Parsed NamedLine) (r : Result LineAt BadLine) (c : ℕ) (u : Lent) : Type 0 where
+  good : (l : NamedLine) (x : LineAt) → r ≡ Ok x → o ≡ got l x.next → T (is_good_line b l) → c ≤ 64 → x.start ≡ l.start → Told (b ++ (l ∷ [])) c u
+      → LineLeft b o r c u
+  bad : IsErr r → ((l : NamedLine) (next : ℕ) → o ≡ got l next → ¬ T (is_good_line b l)) → LineLeft b o r c u
 
-pub record ReadsLine (s : List ℕ) (at m count : ℕ) (t : Lent) (r : LineAt) (u : Lent) : Type 0 where
-  pub left : (b : Board) → m ≡ length b → Told b count t → LineLeft b (line_form s at) r u
+pub record ReadsLine (s : List ℕ) (at m count : ℕ) (t : Lent) (r : Result LineAt BadLine) (c : ℕ) (u : Lent) : Type 0 where
+  pub left : (b : Board) → m ≡ length b → Told b count t → LineLeft b (line_form s at) r c u

@@ -1,220 +1,140 @@
 // The moves of a machine's line: each is looked up, tested and stored at once.
-ghost use Rattle.std.specs.Prelude.{◌≡◌, ◌<◌, ◌≤◌};
+ghost use Rattle.std.specs.Prelude.{◌≡◌, ◌<◌, ◌≤◌, is_ok};
 ghost use Rattle.model.specs.Board.{good_ends};
-ghost use Rattle.sheet_reader.specs.Lent.{lent_rows, Holding};
+ghost use Rattle.sheet_reader.specs.Lent.{lent, Holding};
 ghost use Rattle.sheet_reader.specs.Storing.{StoresMove, AddsMove, ReadsMove, ReadsMoves};
 
 use model::{MAX_EVENTS, MAX_MACHINES, MAX_PLACES};
-use names::{HINTS, add_hint, find_name};
-use quick_move::{QuickMove, read_move_quickly};
-use regions::MOVES;
-use rows::narrow;
-use sheet_lines::{MoveAt, MoveWords, read_move};
+use names::Names;
+use quick_move::read_move_quickly;
+use rows::Moves;
+use sheet_lines::{MoveLine, read_move};
 
 // A pre-place below this says that the event is on the machine.
 const PLACE_BOUND: u8 = MAX_PLACES as u8;
+
+// A machine of a sheet: its number, and how many places it has.
+#[derive(Clone, Copy)]
+pub struct Machine {
+    pub number: usize,
+    pub places: usize,
+    ghost numbered: { number < 16 },
+    ghost small: { places ≤ 64 },
+}
+
+// The line of a machine is faulty, and the rows are of no use any more.
+#[derive(Clone, Copy)]
+pub struct BadLine;
 
 // The ends of a move are places of the machine, and differ.
 fn good_ends(from: usize, to: usize, places: usize) -> bool
     ensures { result ≡ good_ends places from to }
 {
-    if from < places {
-        if to < places {
-            return from != to;
-        }
-    }
-    false
+    from < places && to < places && from != to
 }
 
-// The move of event e on machine m, unless its ends are not two places of the machine or the event is on it already.
+// Stores the move of event e on a machine, unless its ends are not two places of the machine or the event is on it already.
 fn store_move(
-    pre: &mut [u8; MOVES],
-    post: &mut [u8; MOVES],
-    m: usize,
-    places: usize,
+    moves: &mut Moves,
+    machine: Machine,
     e: usize,
     from: usize,
     to: usize,
-) -> bool
-    requires { (m < 16) × (places ≤ 64) × (e < 64) }
-    ensures { StoresMove m places e from to pre.old post.old result pre.new post.new }
+) -> Result<(), BadLine>
+    requires { e < 64 }
+    ensures { StoresMove machine.number machine.places e from to moves.old.pre moves.old.post (is_ok result) moves.new.pre moves.new.post }
 {
-    if !good_ends(from, to, places) {
-        return false;
+    if !good_ends(from, to, machine.places) {
+        return Err(BadLine);
     }
-    let at = e * MAX_MACHINES + m;
-    if pre[at] < PLACE_BOUND {
-        return false;
+    let at = e * MAX_MACHINES + machine.number;
+    if moves.pre[at] < PLACE_BOUND {
+        return Err(BadLine);
     }
-    pre[at] = narrow(from);
-    post[at] = narrow(to);
-    true
+    moves.pre[at] = from as u8;
+    moves.post[at] = to as u8;
+    Ok(())
 }
 
-// What became of a move: whether its line is still good, and how many names there are then. If not, the rows are of no use any more.
-#[derive(Drop)]
-struct Added {
-    good: bool,
-    count: usize,
-}
+// Here and below, names and moves are lent without the starts of the sheet: no contract has to say that those stay.
 
-// A move of machine m by its words. A name that is not yet there gets an entry and a hint.
+// Stores a move by its words. A name that is not yet there gets an entry and a hint.
 fn add_move(
-    len: &mut [usize; MAX_EVENTS],
-    high: &mut [u64; MAX_EVENTS],
-    low: &mut [u64; MAX_EVENTS],
-    count: usize,
-    hints: &mut [u8; HINTS],
-    pre: &mut [u8; MOVES],
-    post: &mut [u8; MOVES],
-    m: usize,
-    places: usize,
-    x: MoveWords,
-) -> Added
-    requires { (count ≤ 64) × (m < 16) × (places ≤ 64) }
-    ensures count_bound { result.count ≤ 64 }
-    ensures adds_move { AddsMove m places count (lent_rows «len».old «high».old «low».old pre.old post.old) x result (lent_rows «len».new «high».new «low».new pre.new post.new) }
+    names: &mut Names,
+    moves: &mut Moves,
+    machine: Machine,
+    x: MoveLine,
+) -> Result<(), BadLine>
+    requires { names.old.count ≤ 64 }
+    ensures count_bound { names.new.count ≤ 64 }
+    ensures adds_move { AddsMove machine.number machine.places names.old.count (lent names.old moves.old) x (is_ok result) names.new.count (lent names.new moves.new) }
 {
-    let n = x.len;
-    let h = x.high;
-    let l = x.low;
-    let e = find_name(len, high, low, count, n, h, l);
+    let e = names.find(x.name).unwrap_or(names.count);
     if MAX_EVENTS <= e {
-        return Added { good: false, count };
+        return Err(BadLine);
     }
-    if !store_move(pre, post, m, places, e, x.pre, x.post) {
-        return Added { good: false, count };
+    store_move(moves, machine, e, x.pre, x.post)?;
+    if e < names.count {
+        return Ok(());
     }
-    if e < count {
-        return Added { good: true, count };
-    }
-    len[e] = n;
-    high[e] = h;
-    low[e] = l;
-    add_hint(h, l, e, hints);
-    Added {
-        good: true,
-        count: count + 1,
-    }
+    names.len[e] = x.name.len;
+    names.high[e] = x.name.high;
+    names.low[e] = x.name.low;
+    names.count += 1;
+    names.add_hint(x.name, e);
+    Ok(())
 }
 
-// The move at a position: none, one that makes its line bad, or stored; then how many names there are, and the position after it.
-#[derive(Drop)]
-enum NextMove {
-    Missing,
-    Bad,
-    Stored { count: usize, next: usize },
-}
-
-// The move of machine m at a position, word by word.
+// Stores the move at a position, word by word: the position after it, if a move stands there.
 fn read_words(
     s: &[u8],
     at: usize,
-    len: &mut [usize; MAX_EVENTS],
-    high: &mut [u64; MAX_EVENTS],
-    low: &mut [u64; MAX_EVENTS],
-    count: usize,
-    hints: &mut [u8; HINTS],
-    pre: &mut [u8; MOVES],
-    post: &mut [u8; MOVES],
-    m: usize,
-    places: usize,
-) -> NextMove
-    requires { (count ≤ 64) × (m < 16) × (places ≤ 64) }
-    ensures { ReadsMove s.now at m places count (lent_rows «len».old «high».old «low».old pre.old post.old) result (lent_rows «len».new «high».new «low».new pre.new post.new) }
+    names: &mut Names,
+    moves: &mut Moves,
+    machine: Machine,
+) -> Result<Option<usize>, BadLine>
+    requires { names.old.count ≤ 64 }
+    ensures { ReadsMove s.now at machine.number machine.places names.old.count (lent names.old moves.old) result names.new.count (lent names.new moves.new) }
 {
-    let MoveAt::Found(x) = read_move(s, at) else {
-        return NextMove::Missing;
+    let Some(x) = read_move(s, at) else {
+        return Ok(None);
     };
-    let next = x.next;
-    let added = add_move(len, high, low, count, hints, pre, post, m, places, x);
-    let more = added.count;
-    let good = added.good;
-    if !good {
-        return NextMove::Bad;
-    }
-    NextMove::Stored { count: more, next }
+    add_move(names, moves, machine, x)?;
+    Ok(Some(x.next))
 }
 
-// The same move, by words only where it is not read quickly.
+// The same, by words only where the move is not read quickly.
 fn next_move(
     s: &[u8],
     at: usize,
-    len: &mut [usize; MAX_EVENTS],
-    high: &mut [u64; MAX_EVENTS],
-    low: &mut [u64; MAX_EVENTS],
-    count: usize,
-    hints: &mut [u8; HINTS],
-    pre: &mut [u8; MOVES],
-    post: &mut [u8; MOVES],
-    m: usize,
-    places: usize,
-) -> NextMove
-    requires { (count ≤ 64) × (m < 16) × (places ≤ 64) }
-    ensures { ReadsMove s.now at m places count (lent_rows «len».old «high».old «low».old pre.old post.old) result (lent_rows «len».new «high».new «low».new pre.new post.new) }
+    names: &mut Names,
+    moves: &mut Moves,
+    machine: Machine,
+) -> Result<Option<usize>, BadLine>
+    requires { names.old.count ≤ 64 }
+    ensures { ReadsMove s.now at machine.number machine.places names.old.count (lent names.old moves.old) result names.new.count (lent names.new moves.new) }
 {
-    let QuickMove::Found {
-        event,
-        pre: from,
-        post: to,
-        next,
-    } = read_move_quickly(s, at, len, high, low, count, hints)
-    else {
-        return read_words(s, at, len, high, low, count, hints, pre, post, m, places);
+    let Some(x) = read_move_quickly(s, at, names) else {
+        return read_words(s, at, names, moves, machine);
     };
-    if !store_move(pre, post, m, places, event, from, to) {
-        return NextMove::Bad;
-    }
-    NextMove::Stored { count, next }
+    store_move(moves, machine, x.event, x.pre, x.post)?;
+    Ok(Some(x.next))
 }
 
-// Moves: whether their line is good so far, how many names there are after them, and the position after them.
-#[derive(Drop)]
-pub struct MovesAt {
-    pub good: bool,
-    pub count: usize,
-    pub next: usize,
-}
-
-// The moves of machine m from a position on, into the rows; as far as the first that makes its line bad.
+// The moves of a machine from a position on, into the rows: the position after them.
 pub fn read_moves(
     s: &[u8],
     at: usize,
-    len: &mut [usize; MAX_EVENTS],
-    high: &mut [u64; MAX_EVENTS],
-    low: &mut [u64; MAX_EVENTS],
-    count: usize,
-    hints: &mut [u8; HINTS],
-    pre: &mut [u8; MOVES],
-    post: &mut [u8; MOVES],
-    m: usize,
-    places: usize,
-) -> MovesAt
-    requires { (count ≤ 64) × (m < 16) × (places ≤ 64) × Holding count (lent_rows «len».old «high».old «low».old pre.old post.old) }
-    ensures { ReadsMoves s.now at m places count (lent_rows «len».old «high».old «low».old pre.old post.old) result (lent_rows «len».new «high».new «low».new pre.new post.new) }
+    names: &mut Names,
+    moves: &mut Moves,
+    machine: Machine,
+) -> Result<usize, BadLine>
+    requires { (names.old.count ≤ 64) × Holding names.old.count (lent names.old moves.old) }
+    ensures { ReadsMoves s.now at machine.number machine.places names.old.count (lent names.old moves.old) result names.new.count (lent names.new moves.new) }
 {
-    let mut c = count;
     let mut i = at;
-    loop {
-        match next_move(s, i, len, high, low, c, hints, pre, post, m, places) {
-            NextMove::Missing => {
-                return MovesAt {
-                    good: true,
-                    count: c,
-                    next: i,
-                };
-            }
-            NextMove::Bad => {
-                return MovesAt {
-                    good: false,
-                    count: 0,
-                    next: 0,
-                };
-            }
-            NextMove::Stored { count: more, next } => {
-                c = more;
-                i = next;
-            }
-        }
+    while let Some(next) = next_move(s, i, names, moves, machine)? {
+        i = next;
     }
+    Ok(i)
 }

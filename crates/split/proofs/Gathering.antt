@@ -10,12 +10,11 @@ use Rattle.writers.proofs.Writing.{writes_length}
 use Rattle.command_line.specs.WordRow.{row_of, EachEnded}
 use Rattle.command_line.proofs.Rows.{row_snoc}
 use Rattle.command_line.proofs.Ending.{row_ended}
-use Rattle.split.specs.declared.Gathered.{Gathered}
-use Rattle.split.specs.declared.Gathered.TheVariants.{Words, TooLong}
+use Rattle.std.specs.Prelude.{Option, Some, None}
 use Rattle.split.specs.Gathered.{Gathers}
 
 -- what is gathered is a row of words
-pub gathered_ended : {words n : ℕ} {r : Gathered} {row : List ℕ} → Gathers words r row → r ≡ Words n → EachEnded (take n row)
+pub gathered_ended : {words n : ℕ} {r : Option ℕ} {row : List ℕ} → Gathers words r row → r ≡ Some n → EachEnded (take n row)
 gathered_ended {n = n} g e = let w = g.gathered n e in subst EachEnded (sym w.lie) (row_ended w.ws)
 
 -- the words before word i lie in the first n bytes
@@ -52,7 +51,7 @@ module _ {words : ℕ} {row : List ℕ} {n i : ℕ} (g : Gathering words row n i
             ∙ sym (row_snoc g.ws w);
       }
 
-  pub gathering_end : words ≤ i → Gathers words (Words n) row
+  pub gathering_end : words ≤ i → Gathers words (Some n) row
   gathering_end h =
       record {
         within = λ k e. let z : n ≡ k = cc in omega (arith, g.within);
@@ -62,7 +61,7 @@ module _ {words : ℕ} {row : List ℕ} {n i : ℕ} (g : Gathering words row n i
       }
 
   -- the next word has no room
-  pub gathering_stop : (w : List ℕ) → i < words → length row ≤ n + length w → Gathers words TooLong row
+  pub gathering_stop : (w : List ℕ) → i < words → length row ≤ n + length w → Gathers words None row
   gathering_stop w h l =
       record {
         within = λ k e. let z : ◌≡◌ {A = ℕ} 0 1 = cc in absurd (omega arith);

@@ -1,8 +1,6 @@
 -- The words of the command line in their row. What `Env::arg` puts into a buffer is not known but for its length, so these are some words, as many as there are.
-use Rattle.std.specs.Prelude.{ℕ, ◌-◌, ◌<◌, ◌≤◌, ◌≡◌, List, length, take}
+use Rattle.std.specs.Prelude.{ℕ, ◌-◌, ◌<◌, ◌≤◌, ◌≡◌, List, length, take, Option, Some, None}
 use Rattle.command_line.specs.WordRow.{row_of}
-use Rattle.split.specs.declared.Gathered.{Gathered}
-use Rattle.split.specs.declared.Gathered.TheVariants.{Words, TooLong}
 
 -- the first n bytes are all words but word 0
 pub record GatheredWords (words n : ℕ) (row : List ℕ) : Type 0 where
@@ -16,7 +14,7 @@ pub record NoRoom (words : ℕ) (row : List ℕ) : Type 0 where
   pub counted : length ws ≤ words - 1
   pub longer : length row < length (row_of ws)
 
-pub record Gathers (words : ℕ) (r : Gathered) (row : List ℕ) : Type 0 where
-  pub within : (n : ℕ) → r ≡ Words n → n ≤ length row
-  pub gathered : (n : ℕ) → r ≡ Words n → GatheredWords words n row
-  pub no_room : r ≡ TooLong → NoRoom words row
+pub record Gathers (words : ℕ) (r : Option ℕ) (row : List ℕ) : Type 0 where
+  pub within : (n : ℕ) → r ≡ Some n → n ≤ length row
+  pub gathered : (n : ℕ) → r ≡ Some n → GatheredWords words n row
+  pub no_room : r ≡ None → NoRoom words row

@@ -23,13 +23,6 @@ const TEXT_ROOM: usize = MAX_TEXT + 1;
 // Linux by default hands over 2 MB of words, eight bytes of it for each word's place: so much holds any list of names.
 const MANY_WORDS: usize = 1441792;
 
-// The words in a row, so many bytes of it.
-#[derive(Drop)]
-enum Gathered {
-    Words(usize),
-    TooLong,
-}
-
 // A word and byte 0, which ends it.
 fn put_word(word: &[u8], row: &mut [u8], at: usize) -> usize
     requires { at + length word.now < length row.old }
@@ -43,14 +36,12 @@ fn put_word(word: &[u8], row: &mut [u8], at: usize) -> usize
 // How many words the command line has; word 0 is the program's own name.
 fn count_words(env: &impl Env) -> usize {
     let mut start = [0u8; 1];
-    let mut words = 0;
-    while words < usize::MAX {
+    for words in 0..usize::MAX {
         if let Err(FillError::NotPresent) = env.arg(words, &mut start) {
             return words;
         }
-        words += 1;
     }
-    words
+    usize::MAX
 }
 
 // One that is missing or is longer than the room reads as an empty one.
@@ -58,28 +49,24 @@ fn take_word(env: &impl Env, i: usize, word: &mut [u8]) -> usize
     ensures within { result ≤ length word.new }
     ensures counted { result ≡ length (take result word.new) }
 {
-    match env.arg(i, word) {
-        Ok(len) => len,
-        Err(_) => 0,
-    }
+    env.arg(i, word).unwrap_or(0)
 }
 
-// The words after the program's own name, which is word 0. One that is missing or has more than 4,096 bytes reads as an empty one.
-fn gather(env: &impl Env, words: usize, row: &mut [u8]) -> Gathered
+// The words after the program's own name, which is word 0, in a row, so many bytes of it; None where they have no room. One that is missing or has
+// more than 4,096 bytes reads as an empty one.
+fn gather(env: &impl Env, words: usize, row: &mut [u8]) -> Option<usize>
     ensures { Gathers words result row.new }
 {
     let mut n = 0;
-    let mut i = 1;
-    while i < words {
+    for i in 1..words {
         let mut word = [0u8; 4096];
         let len = take_word(env, i, &mut word);
         if row.len() - n <= len {
-            return Gathered::TooLong;
+            return None;
         }
         n = put_word(&word[..len], row, n);
-        i += 1;
     }
-    Gathered::Words(n)
+    Some(n)
 }
 
 // Until the text is full or its end; a read that fails is taken for the end.
@@ -91,10 +78,7 @@ fn read_text(input: &impl Input, text: &mut [u8]) -> usize
     let mut reader = input.reader();
     let mut n = 0;
     while n < text.len() {
-        let len = match reader.read(&mut text[n..]) {
-            Ok(len) => len,
-            Err(_) => 0,
-        };
+        let len = reader.read(&mut text[n..]).unwrap_or(0);
         if len == 0 {
             break;
         }
@@ -110,7 +94,7 @@ fn serve(rt: &(impl Input + Print), words: &mut [u8])
     let mut text = [0u8; TEXT_ROOM];
     let n = read_text(rt, &mut text);
     let mut out = [0u8; MAX_TEXT];
-    let size = answer(words, &text[..n], &mut out);
+    let size = answer(words, &text[..n], &mut out).unwrap();
     let _ = rt.write_all(&out[..size]);
 }
 
@@ -126,22 +110,21 @@ fn tell_wrong(err: &impl Print, words: &[u8], number: usize)
     }
 }
 
+// The word with this number; an empty one where there is none.
+fn word(words: &[u8], number: usize) -> &[u8] {
+    let at = word_begin(words, number);
+    let end = word_end(words, at);
+    &words[at..end]
+}
+
 // The details are the third word and the fourth.
 fn explain(out: &impl Print, words: &[u8], refusal: usize)
     requires { reply_asked (words_in words.now) ≡ R.Explanation refusal }
 {
-    let first = word_begin(words, 3);
-    let first_end = word_end(words, first);
-    let second = word_begin(words, 4);
-    let second_end = word_end(words, second);
-    put_explanation(
-        out,
-        refusal,
-        &words[first..first_end],
-        &words[second..second_end],
-    );
+    put_explanation(out, refusal, word(words, 3), word(words, 4));
 }
 
+// A match, since what a reply carries differs.
 fn respond(rt: &(impl Input + Print), err: &impl Print, words: &mut [u8])
     requires { EachEnded words.old }
 {
@@ -164,10 +147,9 @@ fn many_words_row() -> [u8; MANY_WORDS]
 // Only where they do not lie in a small row is a large one cleared.
 fn respond_to_many(rt: &(impl Env + Input + Print), err: &impl Print, words: usize) {
     let mut row = many_words_row();
-    let gathered = gather(rt, words, &mut row);
-    match gathered {
-        Gathered::Words(n) => respond(rt, err, &mut row[..n]),
-        Gathered::TooLong => put_too_long(err),
+    match gather(rt, words, &mut row) {
+        Some(n) => respond(rt, err, &mut row[..n]),
+        None => put_too_long(err),
     }
 }
 
@@ -175,9 +157,8 @@ fn main(rt: HostRuntime) {
     let err = rt.stderr();
     let words = count_words(&rt);
     let mut row = [0u8; 4096];
-    let gathered = gather(&rt, words, &mut row);
-    match gathered {
-        Gathered::Words(n) => respond(&rt, &err, &mut row[..n]),
-        Gathered::TooLong => respond_to_many(&rt, &err, words),
+    match gather(&rt, words, &mut row) {
+        Some(n) => respond(&rt, &err, &mut row[..n]),
+        None => respond_to_many(&rt, &err, words),
     }
 }

@@ -4,16 +4,14 @@ use native.Mathlib.Omega.{arith}
 use mathlib.Core.Path.{◌≡◌, refl, ap, sym, ◌∙◌}
 use mathlib.Core.List.{List}
 use mathlib.Core.Option.{some, none, some-ne-none, some-injective}
+use Rattle.std.specs.Prelude.{Ok, Err}
 use Rattle.model.specs.declared.Refusal as D
 use Rattle.model.specs.Cases.{tabled}
 use Rattle.model.specs.Refusal.{Refusal, Checked, refused, passed, refusal_of}
 use Rattle.model.specs.Services.{Part, name, handed_back, name_refusal}
-use Rattle.rows.specs.declared.Verdict.TheVariants as C
-use Rattle.rows.specs.Tables.{verdict_refusal}
 use Rattle.name_service.specs.declared.NamePart.{NamePart}
-use Rattle.name_service.specs.Parts.{Named}
-use Rattle.thin_service.specs.declared.Thinned.{Thinned}
-use Rattle.thin_service.specs.declared.Thinned.TheVariants as T
+use Rattle.name_service.specs.Parts.{part_refusal, part_in, Named}
+use Rattle.thin_service.specs.declared.Kept.{Kept}
 use Rattle.answers.specs.declared.RefusalNumbers.{RefusalNumbers}
 use Rattle.answers.specs.Answers.{numbered}
 use Rattle.thin_service.specs.Answers.{thinned}
@@ -33,28 +31,28 @@ unfolding flat_part handed_back
 of_part (refused r) e = absurd (some-ne-none _ (sym e))
 of_part (passed p) e = refl
 
-module _ {s : List ℕ} {e : ℕ} {part : NamePart} (h : Named s e part) where
-  pub name_refused : {why : D.Refusal} (n : RefusalNumbers) → part.verdict ≡ C.Refused why → numbered n ≡ tabled why
+module _ {s : List ℕ} {e : ℕ} where
+  pub name_refused : {why : D.Refusal} (n : RefusalNumbers) → Named s e (Err why) → numbered n ≡ tabled why
       → record { number = n.number; detail = n.detail; second = n.second; from = 0; size = 0 } ≡ flat_part (name s e)
-  unfolding verdict_refusal name_refusal
-  name_refused n q = of_refusal (name s e) n (rw q at h.verdict)
+  unfolding part_refusal name_refusal
+  name_refused n h = of_refusal (name s e) n h.verdict
 
-  pub name_passed : part.verdict ≡ C.Passed
+  pub name_passed : {part : NamePart} → Named s e (Ok part)
       → record { number = 0; detail = 0; second = 0; from = part.from; size = part.end - part.from } ≡ flat_part (name s e)
-  unfolding verdict_refusal name_refusal
-  name_passed q =
+  unfolding part_refusal part_in name_refusal
+  name_passed {part} h =
       let size : part.end - part.from ≡ (handed_back (name s e)).size = omega (arith, h.begins, h.ends) in
-      rw (size, h.begins) (of_part (name s e) (rw q at h.verdict))
+      rw (size, h.begins) (of_part (name s e) h.verdict)
 
 -- ---- thin
 
-module _ {answer : Thinned} {c : Checked (ℕ × ℕ)} (h : thinned answer ≡ c) where
-  pub set_refused : {why : D.Refusal} (n : RefusalNumbers) → answer ≡ T.Refused why → numbered n ≡ tabled why
+module _ {c : Checked (ℕ × ℕ)} where
+  pub set_refused : (why : D.Refusal) (n : RefusalNumbers) → thinned (Err why) ≡ c → numbered n ≡ tabled why
       → record { number = n.number; detail = n.detail; second = n.second; machines = 0; size = 0 } ≡ flat_set c
   unfolding flat_set thinned numbered
-  set_refused n e q = rw (← h, e) (ap (λ (r : Refusal). flat_set (refused r)) q)
+  set_refused why n h q = rw (← h) (ap (λ (r : Refusal). flat_set (refused r)) q)
 
-  pub set_kept : {machines size : ℕ} → answer ≡ T.Kept machines size
-      → record { number = 0; detail = 0; second = 0; machines = machines; size = size } ≡ flat_set c
+  pub set_kept : (kept : Kept) (machines : ℕ) → thinned (Ok kept) ≡ c → machines ≡ kept.machines
+      → record { number = 0; detail = 0; second = 0; machines = machines; size = kept.size } ≡ flat_set c
   unfolding flat_set thinned
-  set_kept e = rw (← h, e)
+  set_kept kept machines h m = rw (← h, m)

@@ -5,14 +5,15 @@ use mathlib.Core.Path.{◌≡◌, refl, ap}
 use mathlib.Core.Logic.{◌⊎◌, inl, inr}
 use mathlib.Core.List.{List}
 use lib.ListN.{length}
+use Rattle.std.specs.Prelude.{Result, Ok, Err}
+use Rattle.model.specs.declared.Refusal as D
 use Rattle.model.specs.Refusal.{Refusal, refuse, Checked, refused, passed}
 use Rattle.model.specs.Text.{Input}
 use Rattle.model.specs.Table.{Offends, Passes, Refused}
 use Rattle.model.specs.Services.{Part, name}
 use Rattle.model.proofs.Order.{text_number, offence_number}
 use Rattle.model.proofs.Demands.{demand1}
-use Rattle.thin_service.specs.declared.Thinned.{Thinned}
-use Rattle.thin_service.specs.declared.Thinned.TheVariants as T
+use Rattle.thin_service.specs.declared.Kept.{Kept}
 use Rattle.thin_service.specs.Answers.{thinned}
 use Rattle.split_c.specs.declared.SplitName.{SplitName}
 use Rattle.split_c.specs.declared.SplitSet.{SplitSet}
@@ -22,12 +23,12 @@ use Rattle.flat.proofs.Injective.{tabled_numbered}
 -- ---- thin
 
 -- the five numbers tell the refusal, or the kept machines and how many they are
-pub flat_set_injective : (a b : Thinned) → flat_set (thinned a) ≡ flat_set (thinned b) → thinned a ≡ thinned b
+pub flat_set_injective : (a b : Result Kept D.Refusal) → flat_set (thinned a) ≡ flat_set (thinned b) → thinned a ≡ thinned b
 unfolding flat_set thinned
-flat_set_injective (T.Refused x) (T.Refused y) e = ap (λ (t : SplitSet). refused (refuse t.number t.detail t.second)) e
-flat_set_injective (T.Refused x) (T.Kept l k) e = absurd (omega (arith, tabled_numbered x, ap (λ (t : SplitSet). t.number) e))
-flat_set_injective (T.Kept m n) (T.Refused y) e = absurd (omega (arith, tabled_numbered y, ap (λ (t : SplitSet). t.number) e))
-flat_set_injective (T.Kept m n) (T.Kept l k) e = ap (λ (t : SplitSet). passed (t.machines, t.size)) e
+flat_set_injective (Err x) (Err y) e = ap (λ (t : SplitSet). refused (refuse t.number t.detail t.second)) e
+flat_set_injective (Err x) (Ok k) e = absurd (omega (arith, tabled_numbered x, ap (λ (t : SplitSet). t.number) e))
+flat_set_injective (Ok j) (Err y) e = absurd (omega (arith, tabled_numbered y, ap (λ (t : SplitSet). t.number) e))
+flat_set_injective (Ok j) (Ok k) e = ap (λ (t : SplitSet). passed (t.machines, t.size)) e
 
 -- ---- name
 

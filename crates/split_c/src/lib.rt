@@ -9,18 +9,18 @@ ghost use Rattle.thin_service.specs.Answers.{numbered_set};
 ghost use Rattle.flat.specs.Flat.{flat_answer, flat_run};
 ghost use Rattle.split_c.specs.Flat.{flat_part, flat_set};
 
-use flat::{FlatAnswer, FlatRun, flat_answer, flat_run};
+use answers::RefusalNumbers;
+use flat::{FlatAnswer, FlatRun};
 use model::Transition;
 use name_service::name_part;
-use rows::Verdict;
-use splitter::{Thinned, board, check, merge, numbers, quote, run, sheet, steps, thin};
+use splitter::{board, check, merge, quote, run, sheet, steps, thin};
 
 #[unsafe(no_mangle)]
 pub extern "C" fn split_check(text: &[u8], out: &mut [u8]) -> FlatAnswer
     ensures value { result ≡ flat_answer (Services.check text.now out.old).answer }
     ensures out_after { out.new ≡ (Services.check text.now out.old).left }
 {
-    flat_answer(check(text, out))
+    FlatAnswer::from(check(text, out))
 }
 
 #[unsafe(no_mangle)]
@@ -28,10 +28,10 @@ pub extern "C" fn split_steps(text: &[u8], out: &mut [Transition]) -> FlatAnswer
     ensures { (result ≡ flat_answer (Services.steps text.now (map recorded out.old)).answer)
         × (map recorded out.new ≡ (Services.steps text.now (map recorded out.old)).left) }
 {
-    flat_answer(steps(text, out))
+    FlatAnswer::from(steps(text, out))
 }
 
-// What name answers: a refusal, or where the name stands in the text.
+// What name answers: a refusal, or where the name stands in the text. A refusal has three fields of each struct: the C interface.
 #[repr(C)]
 #[derive(Drop)]
 pub struct SplitName {
@@ -43,14 +43,20 @@ pub struct SplitName {
 }
 
 #[unsafe(no_mangle)]
+#[tactic(auto, unfolding(name_service::specs::Parts::part_in))]
 pub extern "C" fn split_name(text: &[u8], event: usize) -> SplitName
     ensures { result ≡ flat_part (Services.name text.now event) }
 {
-    let part = name_part(text, event);
-    let verdict = part.verdict;
-    match verdict {
-        Verdict::Refused(why) => {
-            let n = numbers(why);
+    match name_part(text, event) {
+        Ok(part) => SplitName {
+            number: 0,
+            detail: 0,
+            second: 0,
+            from: part.from,
+            size: part.end - part.from,
+        },
+        Err(why) => {
+            let n = RefusalNumbers::from(why);
             SplitName {
                 number: n.number,
                 detail: n.detail,
@@ -59,13 +65,6 @@ pub extern "C" fn split_name(text: &[u8], event: usize) -> SplitName
                 size: 0,
             }
         }
-        Verdict::Passed => SplitName {
-            number: 0,
-            detail: 0,
-            second: 0,
-            from: part.from,
-            size: part.end - part.from,
-        },
     }
 }
 
@@ -73,7 +72,7 @@ pub extern "C" fn split_name(text: &[u8], event: usize) -> SplitName
 pub extern "C" fn split_run(text: &[u8], events: &[u8]) -> FlatRun
     ensures { result ≡ flat_run (Services.run text.now events.now) }
 {
-    flat_run(run(text, events))
+    FlatRun::from(run(text, events))
 }
 
 // What thin answers: a refusal, or the machines that are kept, bit i for machine i, and how many they are.
@@ -92,8 +91,15 @@ pub extern "C" fn split_thin(text: &[u8]) -> SplitSet
     ensures { result ≡ flat_set (numbered_set (Services.thin text.now)) }
 {
     match thin(text) {
-        Thinned::Refused(why) => {
-            let n = numbers(why);
+        Ok(kept) => SplitSet {
+            number: 0,
+            detail: 0,
+            second: 0,
+            machines: usize::from(kept.machines),
+            size: kept.size,
+        },
+        Err(why) => {
+            let n = RefusalNumbers::from(why);
             SplitSet {
                 number: n.number,
                 detail: n.detail,
@@ -102,13 +108,6 @@ pub extern "C" fn split_thin(text: &[u8]) -> SplitSet
                 size: 0,
             }
         }
-        Thinned::Kept { machines, size } => SplitSet {
-            number: 0,
-            detail: 0,
-            second: 0,
-            machines: machines as usize,
-            size,
-        },
     }
 }
 
@@ -118,7 +117,7 @@ pub extern "C" fn split_merge(text: &[u8], out: &mut [u8]) -> FlatAnswer
     ensures value { result ≡ flat_answer (Services.merge text.now out.old).answer }
     ensures out_after { out.new ≡ (Services.merge text.now out.old).left }
 {
-    flat_answer(merge(text, out))
+    FlatAnswer::from(merge(text, out))
 }
 
 #[unsafe(no_mangle)]
@@ -126,7 +125,7 @@ pub extern "C" fn split_quote(text: &[u8], out: &mut [u8]) -> FlatAnswer
     ensures value { result ≡ flat_answer (Services.quote text.now out.old).answer }
     ensures out_after { out.new ≡ (Services.quote text.now out.old).left }
 {
-    flat_answer(quote(text, out))
+    FlatAnswer::from(quote(text, out))
 }
 
 // The two calls on a sheet, as a board has them (board_c).
@@ -135,12 +134,12 @@ pub extern "C" fn split_sheet(bytes: &[u8], out: &mut [u8]) -> FlatAnswer
     ensures value { result ≡ flat_answer (Board.rewrite bytes.now out.old).answer }
     ensures out_after { out.new ≡ (Board.rewrite bytes.now out.old).left }
 {
-    flat_answer(sheet(bytes, out))
+    FlatAnswer::from(sheet(bytes, out))
 }
 
 #[unsafe(no_mangle)]
 pub extern "C" fn split_board(bytes: &[u8], names: &[u8]) -> FlatRun
     ensures { result ≡ flat_run (Board.board_run bytes.now names.now) }
 {
-    flat_run(board(bytes, names))
+    FlatRun::from(board(bytes, names))
 }

@@ -1,7 +1,7 @@
 // The services under one name; each stands in the crate that it is taken from.
 #![tactic(auto)]
 
-pub use answers::{Answer, RefusalNumbers, numbers};
+pub use answers::RefusalNumbers;
 pub use board_service::{board, sheet};
 pub use check_service::check;
 pub use merge_service::merge;
@@ -10,4 +10,4 @@ pub use product::{Outcome, RunAnswer};
 pub use quote_service::quote;
 pub use run_service::run;
 pub use steps_service::steps;
-pub use thin_service::{Thinned, thin};
+pub use thin_service::{Kept, thin};

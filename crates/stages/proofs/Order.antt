@@ -12,8 +12,7 @@ use Rattle.model.specs.Machine.{Decomposition, machines_refusal}
 use Rattle.model.proofs.Laws.{or_else_none, map_none}
 use Rattle.state_set.proofs.Rows.{empty_row}
 use Rattle.rows.specs.declared.Counts.{Counts}
-use Rattle.rows.specs.declared.Verdict.{Verdict}
-use Rattle.rows.specs.declared.Verdict.TheVariants.{Refused}
+use Rattle.std.specs.Prelude.{Result, Err}
 use Rattle.rows.specs.Tables.{verdict_refusal}
 use Rattle.rows.specs.Told.{system_of}
 use Rattle.rows.specs.Bounded.{Bounded}
@@ -24,12 +23,12 @@ use Rattle.regions.specs.Regions.{rows_of, RegionsTold}
 use Rattle.stages.specs.Order.{refusal_to10, ChecksRows}
 
 module _ (ts : TransitionSystem) (ms : Decomposition) where
-  pub by_system : {r : Verdict} {why : D.Refusal} → verdict_refusal r ≡ system_refusal ts → r ≡ Refused why
-      → verdict_refusal (Refused why) ≡ refusal_to10 ts ms
+  pub by_system : {r : Result (Unit {0}) D.Refusal} {why : D.Refusal} → verdict_refusal r ≡ system_refusal ts → r ≡ Err why
+      → verdict_refusal (Err why) ≡ refusal_to10 ts ms
   unfolding refusal_to10 or_else verdict_refusal
   by_system h e = rw (← h, e)
 
-  pub by_machines : (r : Verdict) → system_refusal ts ≡ none → verdict_refusal r ≡ machines_refusal ts 0 ms → verdict_refusal r ≡ refusal_to10 ts ms
+  pub by_machines : (r : Result (Unit {0}) D.Refusal) → system_refusal ts ≡ none → verdict_refusal r ≡ machines_refusal ts 0 ms → verdict_refusal r ≡ refusal_to10 ts ms
   unfolding refusal_to10 or_else
   by_machines r n h = rw n h
 
@@ -68,13 +67,13 @@ module _ {c : Counts} {source event target duplicate place : List ℕ} where
     rows_used passes = all_used _ passes
 
   -- refused by 4 to 7
-  pub rows_by_system : {r : Verdict} {why : D.Refusal} {pre post excited : List ℕ} → verdict_refusal r ≡ system_refusal (system_of (system_rows c source event target)) → r ≡ Refused why
-      → ChecksRows c source event target duplicate place pre post excited (Refused why)
+  pub rows_by_system : {r : Result (Unit {0}) D.Refusal} {why : D.Refusal} {pre post excited : List ℕ} → verdict_refusal r ≡ system_refusal (system_of (system_rows c source event target)) → r ≡ Err why
+      → ChecksRows c source event target duplicate place pre post excited (Err why)
   unfolding system_of
   rows_by_system h e ats lens sizes b = record { refusal = λ ms m. by_system _ ms h e; rows = λ ms m n. refuses _ n }
 
   module _ (passes : system_refusal (system_of (system_rows c source event target)) ≡ none) where
-    module _ {r : Verdict} {pre post excited : List ℕ} (told : RegionsTold c source event target duplicate place r pre post)
+    module _ {r : Result (Unit {0}) D.Refusal} {pre post excited : List ℕ} (told : RegionsTold c source event target duplicate place r pre post)
         (excitations : Excitations (system_of (system_rows c source event target)).transitions excited) where
       -- refused by 8 to 10, or passed
       pub rows_by_machines : ChecksRows c source event target duplicate place pre post excited r

@@ -14,13 +14,13 @@ use Rattle.model.specs.Machine.{Decomposition, machines_refusal, cover_refusal}
 use Rattle.model.specs.Text.{Input, system, read}
 use Rattle.model.specs.Services.{as_far_as7, as_far_as10, as_far_as12}
 use Rattle.model.proofs.Laws.{or_else_none}
-use Rattle.rows.specs.declared.Verdict.{Verdict}
-use Rattle.rows.specs.declared.Verdict.TheVariants.{Refused, Passed}
+use Rattle.std.specs.Prelude.{Result, Ok, Err}
 use Rattle.rows.specs.declared.Tables.{Tables}
-use Rattle.rows.specs.Tables.{verdict_refusal, tables_of, tables_in}
+use Rattle.rows.specs.declared.Moves.{Moves}
+use Rattle.rows.specs.Tables.{verdict_refusal, tables_of, tables_in, NoMoves}
 use Rattle.rows.specs.declared.Counts.{Counts}
 use Rattle.rows.specs.Told.{system_of, MachinesTold}
-use Rattle.reader.specs.Lent.{FreshRows, ReadsRows}
+use Rattle.reader.specs.Lent.{ReadsRows}
 use Rattle.rows.specs.Bounded.{Bounded, NamesInside}
 use Rattle.rows.proofs.Bounds.{bounded, names_inside}
 use Rattle.rows.proofs.Fronts.{front_length}
@@ -75,7 +75,7 @@ filled_sized s v =
     }
 
 -- the text passes 1 to 3, and these rows are filled
-module _ {s : List ℕ} {r : Verdict} {c : Counts} {ats lens sources events targets sizes duplicates places : List ℕ} (h : verdict_refusal r ≡ refusal_of (read s)) (e : r ≡ Passed)
+module _ {s : List ℕ} {r : Result (Unit {0}) D.Refusal} {u : Unit {0}} {c : Counts} {ats lens sources events targets sizes duplicates places : List ℕ} (h : verdict_refusal r ≡ refusal_of (read s)) (e : r ≡ Ok u)
     (t : ReadsRows s c ats lens sources events targets sizes duplicates places) where
   pub rows_held : Held (read s) s (tables_in c ats lens sources events targets sizes duplicates places)
   rows_held =
@@ -93,7 +93,7 @@ module _ {s : List ℕ} {r : Verdict} {c : Counts} {ats lens sources events targ
 -- ---- what 4 to 7 answer
 
 -- refused by 1 to 3
-pub refused_to_3 : {s : List ℕ} {r : Verdict} {p : Tables} {why : D.Refusal} → verdict_refusal r ≡ refusal_of (read s) → r ≡ Refused why → ReadAsFarAs7 s r p
+pub refused_to_3 : {s : List ℕ} {r : Result (Unit {0}) D.Refusal} {p : Tables} {why : D.Refusal} → verdict_refusal r ≡ refusal_of (read s) → r ≡ Err why → ReadAsFarAs7 s r p
 unfolding verdict_refusal
 refused_to_3 {s} {why = why} h e =
     let q = ap verdict_refusal e in
@@ -105,7 +105,7 @@ module _ {s : List ℕ} {p : Tables} (h : Held (read s) s p) where
   held_7 n = record { value = h.value; passes = passed_7 s h.value h.passes n; told = h.told; bounds = h.bounds; sized = h.sized; names = h.names }
 
   -- the verdict on the rows' transition system is that on the text
-  pub judged_7 : (r : Verdict) → verdict_refusal r ≡ system_refusal (system_of (system_rows p.counts p.source p.event p.target))
+  pub judged_7 : (r : Result (Unit {0}) D.Refusal) → verdict_refusal r ≡ system_refusal (system_of (system_rows p.counts p.source p.event p.target))
       → ReadAsFarAs7 s r p
   unfolding system_of
   judged_7 r e =
@@ -115,7 +115,7 @@ module _ {s : List ℕ} {p : Tables} (h : Held (read s) s p) where
 -- ---- what 4 to 10 answer
 
 -- refused by 1 to 3
-pub refused_to_3_10 : {s : List ℕ} {p : Tables} {r : Verdict} {why : D.Refusal} {pre post excited : List ℕ} → verdict_refusal r ≡ refusal_of (read s) → r ≡ Refused why
+pub refused_to_3_10 : {s : List ℕ} {p : Tables} {r : Result (Unit {0}) D.Refusal} {why : D.Refusal} {pre post excited : List ℕ} → verdict_refusal r ≡ refusal_of (read s) → r ≡ Err why
     → ReadAsFarAs10 s r p pre post excited
 unfolding verdict_refusal
 refused_to_3_10 {s} {why = why} h e =
@@ -126,18 +126,8 @@ refused_to_3_10 {s} {why = why} h e =
 pub fresh : Fresh (replicate 1024 255) (replicate 1024 0) (replicate 256 0)
 fresh = record { moves = record { pre_size = refl; post_size = refl }; excitations = no_excitations }
 
-pub fresh_rows : FreshRows (replicate 64 0) (replicate 64 0) (replicate 1024 0) (replicate 1024 0) (replicate 1024 0) (replicate 16 0) (replicate 16 256) (replicate 4096 255)
-fresh_rows =
-    record {
-      fresh_name_at = refl;
-      fresh_name_len = refl;
-      fresh_source = refl;
-      fresh_event = refl;
-      fresh_target = refl;
-      fresh_sizes = refl;
-      fresh_duplicate = refl;
-      fresh_place = refl;
-    }
+pub fresh_moves : {m : Moves} → NoMoves m → Fresh m.pre m.post (replicate 256 0)
+fresh_moves h = rw (h.pre, h.post) fresh
 
 module _ {s : List ℕ} {p : Tables} (h : Held (read s) s p) where
   abbrev machines : Decomposition
@@ -151,7 +141,7 @@ module _ {s : List ℕ} {p : Tables} (h : Held (read s) s p) where
   machines_told = subst (λ (t : TransitionSystem). MachinesTold t p machines) (sym same) h.told.tells_machines
 
   -- the verdict on what the rows tell is that on the text
-  pub judged_10 : (r : Verdict) {pre post excited : List ℕ} → CheckedTo10 p pre post excited r → ReadAsFarAs10 s r p pre post excited
+  pub judged_10 : (r : Result (Unit {0}) D.Refusal) {pre post excited : List ℕ} → CheckedTo10 p pre post excited r → ReadAsFarAs10 s r p pre post excited
   judged_10 r {pre} {post} {excited} t =
       let q = t.refusal machines machines_told ∙ ap (λ (t : TransitionSystem). refusal_to10 t machines) same in
       record {
@@ -164,16 +154,16 @@ module _ {s : List ℕ} {p : Tables} (h : Held (read s) s p) where
             };
       }
 
-module _ {s : List ℕ} {r : Verdict} {p : Tables} {pre post excited : List ℕ} (t : ReadAsFarAs10 s r p pre post excited) where
-  pub refused_text_10 : {why : D.Refusal} → r ≡ Refused why → as_far_as12 s ≡ refused (tabled why)
+module _ {s : List ℕ} {r : Result (Unit {0}) D.Refusal} {p : Tables} {pre post excited : List ℕ} (t : ReadAsFarAs10 s r p pre post excited) where
+  pub refused_text_10 : {why : D.Refusal} → r ≡ Err why → as_far_as12 s ≡ refused (tabled why)
   unfolding verdict_refusal
-  refused_text_10 {why} e = refused_as {r = Refused why} (sym (refused_12 s (tabled why) (sym t.verdict ∙ ap verdict_refusal e))) refl
+  refused_text_10 {why} e = refused_as {r = Err why} (sym (refused_12 s (tabled why) (sym t.verdict ∙ ap verdict_refusal e))) refl
 
-  pub past_text_10 : r ≡ Passed → Past10 s p pre post excited
+  pub past_text_10 : {u : Unit {0}} → r ≡ Ok u → Past10 s p pre post excited
   past_text_10 e = t.past (lets_pass e)
 
   -- refused by 1 to 10
-  pub refused_to_10 : {why : D.Refusal} → r ≡ Refused why → ReadAsFarAs12 s r p pre post excited
+  pub refused_to_10 : {why : D.Refusal} → r ≡ Err why → ReadAsFarAs12 s r p pre post excited
   unfolding verdict_refusal
   refused_to_10 {why} e =
       let q = ap verdict_refusal e in
@@ -194,7 +184,7 @@ module _ {s : List ℕ} {p : Tables} {pre post excited : List ℕ} (k : Past10 s
   pub counts_bounded : CountsBounded p.counts
   counts_bounded = let b = k.held.bounds in record { states = b.states; events = b.events; machines = b.machines }
 
-  pub cover_refusal_lem : {r : Verdict} → CoverJudged p.counts pre p.place excited r → verdict_refusal r ≡ cover_refusal (system value) value.machines
+  pub cover_refusal_lem : {r : Result (Unit {0}) D.Refusal} → CoverJudged p.counts pre p.place excited r → verdict_refusal r ≡ cover_refusal (system value) value.machines
   unfolding system_of
   cover_refusal_lem j =
       let told = k.held.told in
@@ -206,20 +196,20 @@ module _ {s : List ℕ} {p : Tables} {pre post excited : List ℕ} (k : Past10 s
 
   pub refused_cover : (why : D.Refusal) → cover_refusal (system value) value.machines ≡ some (tabled why) → as_far_as12 s ≡ refused (tabled why)
   unfolding verdict_refusal
-  refused_cover why q = refused_as {r = Refused why} (sym q ∙ sym (refusal_12 s value past_10)) refl
+  refused_cover why q = refused_as {r = Err why} (sym q ∙ sym (refusal_12 s value past_10)) refl
 
-  pub judged_12 : (r : Verdict) → CoverJudged p.counts pre p.place excited r → ReadAsFarAs12 s r p pre post excited
+  pub judged_12 : (r : Result (Unit {0}) D.Refusal) → CoverJudged p.counts pre p.place excited r → ReadAsFarAs12 s r p pre post excited
   judged_12 r j =
       record {
         verdict = cover_refusal_lem j ∙ sym (refusal_12 s value past_10);
         judged = λ n. record { past = k; covered = sym (cover_refusal_lem j) ∙ n };
       }
 
-module _ {s : List ℕ} {r : Verdict} {p : Tables} {pre post excited : List ℕ} (t : ReadAsFarAs12 s r p pre post excited) where
-  pub refused_text : {why : D.Refusal} → r ≡ Refused why → as_far_as12 s ≡ refused (tabled why)
+module _ {s : List ℕ} {r : Result (Unit {0}) D.Refusal} {p : Tables} {pre post excited : List ℕ} (t : ReadAsFarAs12 s r p pre post excited) where
+  pub refused_text : {why : D.Refusal} → r ≡ Err why → as_far_as12 s ≡ refused (tabled why)
   refused_text e = refused_as t.verdict e
 
-  pub past_text : r ≡ Passed → Judged s p pre post excited
+  pub past_text : {u : Unit {0}} → r ≡ Ok u → Judged s p pre post excited
   past_text e = t.judged (lets_pass e)
 
 pub past_12 : {s : List ℕ} {p : Tables} {pre post excited : List ℕ} (j : Judged s p pre post excited) → as_far_as12 s ≡ passed j.past.held.value

@@ -1,12 +1,12 @@
 -- What is known of a text once it is read, once it is past 7, past 10, and past 12.
-use Rattle.std.specs.Prelude.{ℕ, ◌≡◌, List, []}
+use Rattle.std.specs.Prelude.{ℕ, ◌≡◌, List, [], Result}
 use Rattle.std.proofs.Math.Option.{none}
+use Rattle.model.specs.declared.Refusal as D
 use Rattle.model.specs.Refusal.{Checked, passed, refusal_of}
 use Rattle.model.specs.Text.{Input, system, read}
 use Rattle.model.specs.Machine.{cover_refusal}
 use Rattle.model.specs.Services.{as_far_as7, as_far_as10, as_far_as12}
 use Rattle.rows.specs.declared.Tables.{Tables}
-use Rattle.rows.specs.declared.Verdict.{Verdict}
 use Rattle.rows.specs.Tables.{verdict_refusal}
 use Rattle.rows.specs.Told.{Told}
 use Rattle.rows.specs.Bounded.{Bounded, NamesInside}
@@ -26,7 +26,7 @@ pub record Held (checked : Checked Input) (s : List ℕ) (p : Tables) : Type 0 w
   pub names : NamesInside s p.name_at p.name_len p.counts.events
 
 -- the verdict is that of the check as far as 7; if the text passes, the rows hold its value
-pub record ReadAsFarAs7 (s : List ℕ) (r : Verdict) (p : Tables) : Type 0 where
+pub record ReadAsFarAs7 (s : List ℕ) (r : Result (Unit {0}) D.Refusal) (p : Tables) : Type 0 where
   pub verdict : verdict_refusal r ≡ refusal_of (as_far_as7 s)
   pub held : verdict_refusal r ≡ none → Held (as_far_as7 s) s p
 
@@ -41,7 +41,7 @@ pub record Past10 (s : List ℕ) (p : Tables) (pre post excited : List ℕ) : Ty
   pub passes : refusal_to10 (system held.value) held.value.machines ≡ none
   pub cover : CoverTold (system held.value) held.value.machines pre post p.place excited
 
-pub record ReadAsFarAs10 (s : List ℕ) (r : Verdict) (p : Tables) (pre post excited : List ℕ) : Type 0 where
+pub record ReadAsFarAs10 (s : List ℕ) (r : Result (Unit {0}) D.Refusal) (p : Tables) (pre post excited : List ℕ) : Type 0 where
   pub verdict : verdict_refusal r ≡ refusal_of (as_far_as10 s)
   pub past : verdict_refusal r ≡ none → Past10 s p pre post excited
 
@@ -50,6 +50,6 @@ pub record Judged (s : List ℕ) (p : Tables) (pre post excited : List ℕ) : Ty
   pub past : Past10 s p pre post excited
   pub covered : cover_refusal (system past.held.value) past.held.value.machines ≡ none
 
-pub record ReadAsFarAs12 (s : List ℕ) (r : Verdict) (p : Tables) (pre post excited : List ℕ) : Type 0 where
+pub record ReadAsFarAs12 (s : List ℕ) (r : Result (Unit {0}) D.Refusal) (p : Tables) (pre post excited : List ℕ) : Type 0 where
   pub verdict : verdict_refusal r ≡ refusal_of (as_far_as12 s)
   pub judged : verdict_refusal r ≡ none → Judged s p pre post excited

@@ -1,9 +1,8 @@
 -- The states of a set: state i is digit i % 64 of word i / 64. No number from 256 on is a member.
-use Rattle.std.specs.Prelude.{ℕ, zero, suc, ◌/◌, ◌%◌, ◌^◌, Bool, eqb}
+use Rattle.std.specs.Prelude.{ℕ, zero, suc, ◌/◌, ◌%◌, ◌^◌, Bool, eqb, Some, None}
+use Rattle.std.specs.Prelude as Std
 use Rattle.std.proofs.Math.Option.{Option, none, some}
 use Rattle.state_set.specs.declared.StateSet.{StateSet}
-use Rattle.state_set.specs.declared.Found.{Found}
-use Rattle.state_set.specs.declared.Found.TheVariants.{Nothing, State}
 
 -- digit i of a number in base two, counted from 0 at the low end
 unfoldable pub bit : ℕ → ℕ → Bool
@@ -19,6 +18,6 @@ word_at s (suc (suc (suc (suc k)))) = zero
 unfoldable pub member : StateSet → ℕ → Bool
 member s i = bit (word_at s (i / 64)) (i % 64)
 
-unfoldable pub state_found : Found → Option ℕ
-state_found Nothing = none
-state_found (State s) = some s
+unfoldable pub state_found : Std.Option ℕ → Option ℕ
+state_found None = none
+state_found (Some s) = some s

@@ -9,8 +9,9 @@ ghost use Rattle.state_set.specs.Member.{member, state_found};
 ghost use Rattle.state_set.specs.Rows.{set_at, member_at, Stored, Inserted, WordJoined, Joined};
 
 // A word of the set of all states.
-pub const FULL_WORD: u64 = 0xffff_ffff_ffff_ffff;
+pub const FULL_WORD: u64 = u64::MAX;
 
+// Four words, and no array of them: a set is passed by value, and its words are tested one by one.
 #[derive(Clone, Copy)]
 pub struct StateSet {
     pub w0: u64,
@@ -35,13 +36,6 @@ impl StateSet {
     };
 }
 
-// The lowest state of a set, if it has one.
-#[derive(Drop)]
-pub enum Found {
-    Nothing,
-    State(u8),
-}
-
 // The set of one state.
 pub fn single(state: u8) -> StateSet
     ensures { (i : ℕ) → member result i ≡ eqb i state }
@@ -61,7 +55,7 @@ pub fn single(state: u8) -> StateSet
     set
 }
 
-// The states in both sets.
+// The states in both sets. `meet`, `join` and `without` are each one operator; one function that takes the operator is no plainer.
 pub fn meet(a: StateSet, b: StateSet) -> StateSet
     ensures { (i : ℕ) → member result i ≡ (member a i && member b i) }
 {
@@ -102,25 +96,26 @@ fn lowest_in(word: u64, first: u8) -> u8
     requires { (0 < word) × (first < 193) }
     ensures { result ≡ first + count_trailing_zeros 64 word }
 {
-    first + u64::trailing_zeros(word) as u8
+    first + word.trailing_zeros() as u8
 }
 
-pub fn lowest(a: StateSet) -> Found
+// The lowest state of a set, if it has one.
+pub fn lowest(a: StateSet) -> Option<u8>
     ensures { state_found result ≡ lowest (member a) 256 }
 {
     if a.w0 != 0 {
-        return Found::State(lowest_in(a.w0, 0));
+        return Some(lowest_in(a.w0, 0));
     }
     if a.w1 != 0 {
-        return Found::State(lowest_in(a.w1, 64));
+        return Some(lowest_in(a.w1, 64));
     }
     if a.w2 != 0 {
-        return Found::State(lowest_in(a.w2, 128));
+        return Some(lowest_in(a.w2, 128));
     }
     if a.w3 != 0 {
-        return Found::State(lowest_in(a.w3, 192));
+        return Some(lowest_in(a.w3, 192));
     }
-    Found::Nothing
+    None
 }
 
 // The set without its lowest state.
@@ -129,13 +124,13 @@ pub fn without_lowest(a: StateSet) -> StateSet
 {
     let mut rest = a;
     if rest.w0 != 0 {
-        rest.w0 = rest.w0 & (rest.w0 - 1);
+        rest.w0 &= rest.w0 - 1;
     } else if rest.w1 != 0 {
-        rest.w1 = rest.w1 & (rest.w1 - 1);
+        rest.w1 &= rest.w1 - 1;
     } else if rest.w2 != 0 {
-        rest.w2 = rest.w2 & (rest.w2 - 1);
+        rest.w2 &= rest.w2 - 1;
     } else if rest.w3 != 0 {
-        rest.w3 = rest.w3 & (rest.w3 - 1);
+        rest.w3 &= rest.w3 - 1;
     }
     rest
 }
@@ -170,7 +165,7 @@ pub fn contains_at(row: &[u64], k: usize, state: u8) -> bool
     requires { k * 4 + 3 < length row.now }
     ensures { result ≡ member_at row.now k state }
 {
-    let at = k * 4 + (state / 64) as usize;
+    let at = k * 4 + usize::from(state / 64);
     (row[at] >> (state % 64)) % 2 == 1
 }
 
@@ -179,8 +174,8 @@ pub fn insert(row: &mut [u64], k: usize, state: u8)
     requires { k * 4 + 3 < length row.old }
     ensures { Inserted k state row.old row.new }
 {
-    let at = k * 4 + (state / 64) as usize;
-    row[at] = row[at] | 1u64 << (state % 64);
+    let at = k * 4 + usize::from(state / 64);
+    row[at] |= 1u64 << (state % 64);
 }
 
 // Adds the states of a word to a word of a row, if it has any.
@@ -189,7 +184,7 @@ fn join_word(row: &mut [u64], at: usize, word: u64)
     ensures { WordJoined at word row.old row.new }
 {
     if word != 0 {
-        row[at] = row[at] | word;
+        row[at] |= word;
     }
 }
 

@@ -7,12 +7,12 @@ use mathlib.Core.List.{List, [], ◌∷◌, ◌++◌}
 use mathlib.Core.Option.{none, some-ne-none}
 use borrow.Author.Tests.{eq-eqb, ne_eqb}
 use lib.Dec.{eqb}
+use Rattle.model.specs.declared.Refusal as D
 use Rattle.model.specs.declared.Refusal.TheVariants.{SelfLoop, Nondeterministic}
 use Rattle.model.specs.Cases.{tabled}
 use Rattle.model.specs.Lists.{exists, index}
 use Rattle.model.specs.TransitionSystem.{Transition, leads, transition_refusal}
-use Rattle.rows.specs.declared.Verdict.{Verdict}
-use Rattle.rows.specs.declared.Verdict.TheVariants.{Refused, Passed}
+use Rattle.std.specs.Prelude.{Result, Ok, Err}
 use Rattle.rows.specs.Tables.{verdict_refusal}
 use Rattle.rows.specs.Told.{entry, transition_at, first_transitions}
 use Rattle.rows.proofs.Fronts.{exists_snoc, front_length}
@@ -51,7 +51,7 @@ module _ {ts : List Transition} (t : Transition) {old new : List ℕ} where
           rw (exists_snoc (joins s u) ts t, i.members s u, x.members s u (rw i.size at l), eqb_comm t.source s, eqb_comm t.target u)
 
 -- ---- what adding transition k of the rows answers
-abbrev Added : List ℕ → List ℕ → List ℕ → ℕ → Verdict → List ℕ → List ℕ → Type 0
+abbrev Added : List ℕ → List ℕ → List ℕ → ℕ → Result (Unit {0}) D.Refusal → List ℕ → List ℕ → Type 0
 Added source event target k v excited successors =
     (verdict_refusal v ≡ transition_refusal (first_transitions source event target k) (transition_at source event target k))
     × (verdict_refusal v ≡ none → SetsOf (first_transitions source event target (suc k)) excited successors)
@@ -63,7 +63,7 @@ tested row s p h = h ∙ ap (λ (e : ℕ). member_at row e s) p
 -- transition k of the rows
 module _ {source event target successors₀ : List ℕ} {k : ℕ} (rows : InRows source event target successors₀ k) where
   pub stands : {excited successors : List ℕ} → entry source k ≡ entry target k
-      → Added source event target k (Refused (SelfLoop (k + 3))) excited successors
+      → Added source event target k (Err (SelfLoop (k + 3))) excited successors
   unfolding verdict_refusal tabled transition_refusal
   stands e =
       (rw (eq-eqb (entry source k) (entry target k) e, front_length source event target k), λ n. absurd (some-ne-none _ n))
@@ -79,7 +79,7 @@ module _ {source event target successors₀ : List ℕ} {k : ℕ} (rows : InRows
 
     pub forks : {excited successors : List ℕ} {i : ℕ} → r ≡ true
         → i ≡ index (leads (entry source k) (entry event k)) (first_transitions source event target k)
-        → Added source event target k (Refused (Nondeterministic (k + 3) (i + 3))) excited successors
+        → Added source event target k (Err (Nondeterministic (k + 3) (i + 3))) excited successors
     unfolding verdict_refusal tabled transition_refusal
     forks t e = (
       rw (ne_eqb (entry source k) (entry target k) moves, ← exists_before, t, ← e, front_length source event target k),
@@ -87,7 +87,7 @@ module _ {source event target successors₀ : List ℕ} {k : ℕ} (rows : InRows
     )
 
     pub enters : {excited successors : List ℕ} {v w : ℕ} → r ≡ false → v ≡ entry event k → Inserted v (entry source k) excited₀ excited
-        → w ≡ entry source k → Inserted w (entry target k) successors₀ successors → Added source event target k Passed excited successors
+        → w ≡ entry source k → Inserted w (entry target k) successors₀ successors → Added source event target k (Ok tt) excited successors
     unfolding verdict_refusal transition_refusal first_transitions
     enters f p i q j = (
       rw (ne_eqb (entry source k) (entry target k) moves, ← exists_before, f),

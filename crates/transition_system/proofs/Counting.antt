@@ -4,12 +4,14 @@ use native.Mathlib.Omega.{arith}
 use mathlib.Core.Path.{◌≡◌, ◌∙◌}
 use mathlib.Core.Logic.{◌⊎◌, inl, inr}
 use mathlib.Core.Bool.{Bool, true, false, not, cond}
-use mathlib.Core.Option.{some, some-ne-none}
+use mathlib.Core.Option.{Option, none, some, some-ne-none}
+use Rattle.std.specs.Prelude.{Some, None, is_some}
+use Rattle.std.specs.Prelude as Std
 use lib.Dec.{T}
 use Rattle.model.specs.Lists.{lowest}
 use Rattle.model.proofs.Laws.{order, Lowest, found, absent, lowest_view, below_suc}
 use Rattle.state_set.specs.declared.StateSet.{StateSet}
-use Rattle.state_set.specs.Member.{member}
+use Rattle.state_set.specs.Member.{member, state_found}
 use Rattle.state_set.proofs.Sets.{no_member}
 
 -- ---- how many numbers below n pass a test
@@ -75,3 +77,15 @@ lowest_hit f n k e = go (lowest_view f n)
     go : Lowest f n → T (f k)
     go (found j p l t h) = let same : j ≡ k = cc in rw same at t
     go (absent p h) = absurd (some-ne-none k (e ∙ p))
+
+-- ---- what a search's answer tells of it, once it is tested
+module _ {o : Option ℕ} where
+  pub finds_none : (r : Std.Option ℕ) → state_found r ≡ o → is_some r ≡ false → none ≡ o
+  unfolding state_found
+  finds_none None e t = e
+  finds_none (Some s) e t = cc
+
+  pub finds_some : (r : Std.Option ℕ) → state_found r ≡ o → is_some r ≡ true → (s : ℕ) × (some s ≡ o)
+  unfolding state_found
+  finds_some None e t = cc
+  finds_some (Some s) e t = (s, e)

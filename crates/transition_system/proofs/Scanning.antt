@@ -8,8 +8,7 @@ use mathlib.Core.Option.{Option, none, some, some-ne-none, or_else}
 use lib.ListN.{length}
 use Rattle.model.specs.declared.Refusal as D
 use Rattle.model.specs.TransitionSystem.{Transition, transition_refusal, transitions_refusal}
-use Rattle.rows.specs.declared.Verdict.{Verdict}
-use Rattle.rows.specs.declared.Verdict.TheVariants.{Refused, Passed}
+use Rattle.std.specs.Prelude.{Result, Ok, Err}
 use Rattle.rows.specs.Tables.{verdict_refusal}
 use Rattle.rows.specs.Told.{transition_at, first_transitions}
 use Rattle.rows.proofs.Fronts.{front_more, front_rest}
@@ -35,7 +34,7 @@ pub record SoFar (source event target : List ℕ) (n words k : ℕ) (excited suc
   pub passes : transitions_refusal [] (first_transitions source event target k) ≡ none
   pub sets : SetsOf (first_transitions source event target k) excited successors
 
-abbrev Scanned : List ℕ → List ℕ → List ℕ → ℕ → Verdict → List ℕ → List ℕ → Type 0
+abbrev Scanned : List ℕ → List ℕ → List ℕ → ℕ → Result (Unit {0}) D.Refusal → List ℕ → List ℕ → Type 0
 Scanned source event target n v excited successors =
     (verdict_refusal v ≡ transitions_refusal [] (first_transitions source event target n))
     × (verdict_refusal v ≡ none → SetsOf (first_transitions source event target n) excited successors)
@@ -48,7 +47,7 @@ scan_start s = record { most = omega arith; size = refl; passes = refl; sets = s
 module _
     {source event target : List ℕ} {n words k : ℕ} {excited successors : List ℕ}
     (s : SoFar source event target n words k excited successors) where
-  pub scan_end : n ≤ k → Scanned source event target n Passed excited successors
+  pub scan_end : n ≤ k → Scanned source event target n (Ok tt) excited successors
   unfolding verdict_refusal
   scan_end l =
       let e : k ≡ n = omega arith in
@@ -74,16 +73,16 @@ module _
   after ys = refusal_append [] (first_transitions source event target k) (transition_at source event target k ∷ ys) ∙ rw s.passes
 
   -- it is refused
-  pub scan_stop : {v : Verdict} {why : D.Refusal} {old new : List ℕ} → k < n → v ≡ Refused why
+  pub scan_stop : {v : Result (Unit {0}) D.Refusal} {why : D.Refusal} {old new : List ℕ} → k < n → v ≡ Err why
       → verdict_refusal v ≡ transition_refusal (first_transitions source event target k) (transition_at source event target k)
-      → Scanned source event target n (Refused why) old new
+      → Scanned source event target n (Err why) old new
   unfolding verdict_refusal or_else
   scan_stop l q r =
       let (ys, e) = front_rest source event target k n l in
       (rw (e, after ys, ← r, q), λ h. absurd (some-ne-none _ h))
 
   -- it passes
-  pub scan_more : {v : Verdict} {old new : List ℕ} → k < n → v ≡ Passed
+  pub scan_more : {v : Result (Unit {0}) D.Refusal} {u : Unit {0}} {old new : List ℕ} → k < n → v ≡ Ok u
       → verdict_refusal v ≡ transition_refusal (first_transitions source event target k) (transition_at source event target k)
       → (verdict_refusal v ≡ none → SetsOf (first_transitions source event target (suc k)) old new)
       → length new ≡ length successors → SoFar source event target n words (k + 1) old new

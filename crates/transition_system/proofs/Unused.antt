@@ -2,36 +2,33 @@
 use Prim.Native.Nat.{ℕ, ◌<◌, ◌≤◌}
 use native.Mathlib.Omega.{arith}
 use mathlib.Core.Path.{◌≡◌, sym, ap, ◌∙◌}
-use mathlib.Core.Bool.{Bool, not}
+use mathlib.Core.Bool.{Bool, true, false, not}
 use mathlib.Core.List.{List}
-use mathlib.Core.Option.{none, some-ne-none}
+use mathlib.Core.Option.{none, some, some-ne-none}
 use lib.Dec.{T, eqb, eqb_refl}
 use Rattle.model.specs.Lists.{exists, lowest}
 use Rattle.model.specs.TransitionSystem.{Transition, TransitionSystem, leads, unused_event}
 use Rattle.model.proofs.Bounds.{Within}
-use Rattle.model.proofs.Laws.{not_T, contra, and_i, and_r, exists_intro, exists_elim, not_exists, lowest_none, none_lowest}
-use Rattle.rows.specs.Told.{below}
-use Rattle.rows.proofs.Searches.{Upto, searched}
+use Rattle.model.proofs.Laws.{not_T, contra, and_i, and_r, exists_intro, exists_elim, not_exists, lowest_none, none_lowest, lowest_is}
 use Rattle.state_set.specs.declared.StateSet.{StateSet}
-use Rattle.state_set.specs.declared.Found.{Found}
-use Rattle.state_set.specs.declared.Found.TheVariants.{Nothing, State}
+use Rattle.std.specs.Prelude.{is_some}
+use Rattle.std.specs.Prelude as Std
 use Rattle.state_set.specs.Member.{member, state_found}
 use Rattle.state_set.specs.Rows.{set_at, member_at}
 use Rattle.transition_system.specs.Sets.{Excitations}
+use Rattle.transition_system.proofs.Counting.{finds_none, finds_some}
 
 -- no state is in the set of e
 abbrev pub Idle : List ℕ → ℕ → Type 0
 Idle row e = lowest (member (set_at row e)) 256 ≡ none
 
 -- what `load` and `lowest` gave, in that order
-module _ (row : List ℕ) (e : ℕ) {set : StateSet} {r : Found} (p : set ≡ set_at row e) (q : state_found r ≡ lowest (member set) 256) where
-  pub nothing_idle : r ≡ Nothing → Idle row e
-  unfolding state_found
-  nothing_idle n = rw (← p, ← q, n)
+module _ (row : List ℕ) (e : ℕ) {set : StateSet} (r : Std.Option ℕ) (p : set ≡ set_at row e) (q : state_found r ≡ lowest (member set) 256) where
+  pub nothing_idle : is_some r ≡ false → Idle row e
+  nothing_idle n = rw (← p) (sym (finds_none r q n))
 
-  pub state_excites : {s : ℕ} → r ≡ State s → Idle row e → ⊥
-  unfolding state_found
-  state_excites n i = some-ne-none _ (ap state_found (sym n) ∙ q ∙ rw p i)
+  pub state_excites : is_some r ≡ true → Idle row e → ⊥
+  state_excites n i = let (s, g) = finds_some r q n in some-ne-none s (g ∙ rw p i)
 
 -- the event e has a transition
 abbrev used : TransitionSystem → ℕ → Bool
@@ -56,12 +53,17 @@ module _ (ts : TransitionSystem) {row : List ℕ} (x : Excitations ts.transition
       contra (used ts e) n
       (exists_intro (λ (t : Transition). eqb t.event e) ts.transitions t m (and_r (eqb t.source s) (eqb t.event e) v))
 
--- the search stops at an event that no state excites, or at the end
-pub unused_found : {row : List ℕ} {n e : ℕ} → n ≤ 64 → Upto (λ j. Idle row j → ⊥) n e → (e < n → Idle row e)
-    → (ts : TransitionSystem) → Within ts → ts.states ≤ 256 → ts.events ≡ n → Excitations ts.transitions row → below n e ≡ unused_event ts
-unfolding unused_event
-unused_found {row} {n} {e} h s i ts w b q x =
-    searched (λ e. not (used ts e)) n e s.most
-    (λ j l. not_T (not (used ts j)) λ u. s.each j l (unused_idle ts x j (omega (arith, s.most)) u))
-    (λ l. idle_unused ts x e (omega arith) w b (i l))
-    ∙ ap (lowest (λ e. not (used ts e))) (sym q)
+-- the search stops at an event that no state excites, or comes to the end
+module _ {row : List ℕ} {n : ℕ} (h : n ≤ 64) (ts : TransitionSystem) (w : Within ts) (b : ts.states ≤ 256) (q : ts.events ≡ n) (x : Excitations ts.transitions row) where
+  used_before : (e : ℕ) → e ≤ n → ((j : ℕ) → j < e → Idle row j → ⊥) → (j : ℕ) → j < e → T (not (not (used ts j)))
+  used_before e m s j l = not_T (not (used ts j)) λ u. s j l (unused_idle ts x j (omega arith) u)
+
+  pub unused_found : {e : ℕ} → e < n → ((j : ℕ) → j < e → Idle row j → ⊥) → Idle row e → some e ≡ unused_event ts
+  unfolding unused_event
+  unused_found {e} m s i =
+      sym (lowest_is (λ e. not (used ts e)) n e m (idle_unused ts x e (omega arith) w b i) (used_before e (omega arith) s))
+      ∙ ap (lowest (λ e. not (used ts e))) (sym q)
+
+  pub all_used : ((j : ℕ) → j < n → Idle row j → ⊥) → none ≡ unused_event ts
+  unfolding unused_event
+  all_used s = sym (none_lowest (λ e. not (used ts e)) n (used_before n (omega arith) s)) ∙ ap (lowest (λ e. not (used ts e))) (sym q)

@@ -1,17 +1,18 @@
 -- What rows of sets tell of transitions.
 use Rattle.std.specs.Prelude.{ℕ, ◌+◌, ◌*◌, ◌<◌, ◌≤◌, ◌≡◌, Bool, ◌&&◌, List, [], T, eqb, length}
+use Rattle.std.specs.Prelude as Std
 use Rattle.std.proofs.Math.Option.{Option}
 use Rattle.model.specs.Lists.{exists}
 use Rattle.model.specs.Refusal.{Refusal}
 use Rattle.model.specs.TransitionSystem.{Transition, TransitionSystem, leads, transition_refusal, unused_event, unreachable_state}
 use Rattle.model.proofs.Bounds.{Within}
 use Rattle.state_set.specs.declared.StateSet.{StateSet}
-use Rattle.state_set.specs.Member.{member}
+use Rattle.state_set.specs.Member.{member, state_found}
 use Rattle.state_set.specs.Rows.{member_at}
 use Rattle.rows.specs.declared.Counts.{Counts}
 use Rattle.rows.specs.declared.Tables.{Tables}
 use Rattle.rows.specs.Tables.{tables_in}
-use Rattle.rows.specs.Told.{entry, transition_at, first_transitions, below}
+use Rattle.rows.specs.Told.{entry, transition_at, first_transitions}
 
 -- set e has the states that a transition of the event e leaves: its excitation set
 pub record Excitations (ts : List Transition) (row : List ℕ) : Type 0 where
@@ -59,12 +60,12 @@ system_rows c source event target = tables_in c [] [] source event target [] [] 
 abbrev pub next_refusal : List ℕ → List ℕ → List ℕ → ℕ → Option Refusal
 next_refusal source event target k = transition_refusal (first_transitions source event target k) (transition_at source event target k)
 
--- 6: x is the lowest of n events without a transition, or n, in any system of which the row has the excitation sets
-abbrev pub Unused : List ℕ → ℕ → ℕ → Type 0
+-- 6: x is the lowest of n events without a transition, if there is one, in any system of which the row has the excitation sets
+abbrev pub Unused : List ℕ → ℕ → Std.Option ℕ → Type 0
 Unused excited n x =
-    (ts : TransitionSystem) → Within ts → ts.states ≤ 256 → ts.events ≡ n → Excitations ts.transitions excited → below n x ≡ unused_event ts
+    (ts : TransitionSystem) → Within ts → ts.states ≤ 256 → ts.events ≡ n → Excitations ts.transitions excited → state_found x ≡ unused_event ts
 
--- 7: x is the lowest of n states that is not reached from i, or n, in any system of which the row has the successors
-abbrev pub Unreached : List ℕ → ℕ → ℕ → ℕ → Type 0
+-- 7: x is the lowest of n states that is not reached from i, if there is one, in any system of which the row has the successors
+abbrev pub Unreached : List ℕ → ℕ → ℕ → Std.Option ℕ → Type 0
 Unreached successors i n x =
-    (ts : TransitionSystem) → Within ts → ts.states ≡ n → ts.initial ≡ i → Successors ts.transitions successors → below n x ≡ unreachable_state ts
+    (ts : TransitionSystem) → Within ts → ts.states ≡ n → ts.initial ≡ i → Successors ts.transitions successors → state_found x ≡ unreachable_state ts

@@ -1,7 +1,7 @@
 // Refusals 4 to 7: the transition system by itself.
 #![tactic(auto)]
 
-ghost use Rattle.std.specs.Prelude.{◌≡◌, List, [], ℕ, suc, ◌*◌, ◌<◌, ◌≤◌, T, length};
+ghost use Rattle.std.specs.Prelude.{◌≡◌, List, [], ℕ, suc, ◌*◌, ◌<◌, ◌≤◌, T, length, unwrap_or};
 ghost use Rattle.std.proofs.Math.Option.{none};
 ghost use Rattle.model.specs.Lists.{index};
 ghost use Rattle.model.specs.TransitionSystem.{TransitionSystem, leads, transitions_refusal, system_refusal};
@@ -13,9 +13,9 @@ ghost use Rattle.transition_system.specs.Sets.{Excitations, Has, Successors, Clo
 ghost use Rattle.transition_system.specs.Reaches.{Reaches};
 
 use model::Refusal;
-use rows::{Counts, Verdict, narrow, wide};
+use rows::Tables;
 use state_set::{
-    Found, StateSet, contains_at, insert, join, load, lowest, single, without, without_lowest,
+    StateSet, contains_at, insert, join, load, lowest, single, without, without_lowest,
 };
 
 // Rows of sets have four words for each set: the excitation set of each event, the successors of each state.
@@ -28,92 +28,78 @@ const FEW_STATES: usize = 16;
 
 const FEW_SUCCESSOR_WORDS: usize = 64;
 
-// The first of n transitions that leads from state s by event e; n if there is none.
-fn first_leading<'a>(source: &'a [u8], event: &'a [u8], n: usize, s: u8, e: u8) -> usize
-    requires { (n ≤ length source.now) × (n ≤ length event.now) }
-    ensures { ((targets : List ℕ) → result ≡ index (leads s e) (first_transitions source.now event.now targets n)) × (result ≤ n) }
+// The first of n transitions that leads from state s by event e, if one does.
+fn first_leading(plan: &Tables, n: usize, s: u8, e: u8) -> Option<usize>
+    requires { n ≤ 1024 }
+    ensures { ((targets : List ℕ) → unwrap_or result n ≡ index (leads s e) (first_transitions plan.now.source plan.now.event targets n)) × (unwrap_or result n ≤ n) }
 {
-    let mut k = 0;
-    while k < n {
-        if source[k] == s {
-            if event[k] == e {
-                return k;
-            }
+    for k in 0..n {
+        if plan.source[k] == s && plan.event[k] == e {
+            return Some(k);
         }
-        k += 1;
     }
-    k
+    None
 }
 
 // Transition k, once those before it are in the sets: refused by 4 or 5, or put into them.
-fn add_transition<'a>(
-    source: &'a [u8],
-    event: &'a [u8],
-    target: &'a [u8],
+fn add_transition(
+    plan: &Tables,
     k: usize,
-    excited: &mut [u64],
+    excited: &mut [u64; EXCITATION_WORDS],
     successors: &mut [u64],
-) -> Verdict
-    requires in_rows { InRows source.now event.now target.now successors.old k }
-    requires sets_of { SetsOf (first_transitions source.now event.now target.now k) excited.old successors.old }
-    ensures result_value { verdict_refusal result ≡ next_refusal source.now event.now target.now k }
-    ensures sets_of_2 { verdict_refusal result ≡ none → SetsOf (first_transitions source.now event.now target.now (suc k)) excited.new successors.new }
+) -> Result<(), Refusal>
+    requires in_rows { InRows plan.now.source plan.now.event plan.now.target successors.old k }
+    requires sets_of { SetsOf (first_transitions plan.now.source plan.now.event plan.now.target k) excited.old successors.old }
+    ensures result_value { verdict_refusal result ≡ next_refusal plan.now.source plan.now.event plan.now.target k }
+    ensures sets_of_2 { verdict_refusal result ≡ none → SetsOf (first_transitions plan.now.source plan.now.event plan.now.target (suc k)) excited.new successors.new }
 {
-    let s = source[k];
-    let t = target[k];
-    let e = event[k];
+    let s = plan.source[k];
+    let t = plan.target[k];
+    let e = plan.event[k];
     // the transitions follow the lines of the states and the events
     let line = k + 3;
     if s == t {
-        return Verdict::Refused(Refusal::SelfLoop { line }); // 4 standstill
+        return Err(Refusal::SelfLoop { line }); // 4 standstill
     }
-    if contains_at(excited, wide(e), s) {
-        let earlier = first_leading(source, event, k, s, e) + 3;
-        return Verdict::Refused(Refusal::Nondeterministic { line, earlier }); // 5 fork
+    if contains_at(excited, usize::from(e), s) {
+        // one of the k transitions before this one leads there
+        let earlier = first_leading(plan, k, s, e).unwrap_or(k) + 3;
+        return Err(Refusal::Nondeterministic { line, earlier }); // 5 fork
     }
-    insert(excited, wide(e), s);
-    insert(successors, wide(s), t);
-    Verdict::Passed
+    insert(excited, usize::from(e), s);
+    insert(successors, usize::from(s), t);
+    Ok(())
 }
 
 // 4 and 5 over the transitions in order. The excitation set of each event and the successors of each state are found on the way.
-fn add_transitions<'a>(
-    source: &'a [u8],
-    event: &'a [u8],
-    target: &'a [u8],
+fn add_transitions(
+    plan: &Tables,
     n: usize,
-    excited: &mut [u64],
+    excited: &mut [u64; EXCITATION_WORDS],
     successors: &mut [u64],
-) -> Verdict
-    requires by_index { (k : ℕ) → k < n → InRows source.now event.now target.now successors.old k }
+) -> Result<(), Refusal>
+    requires by_index { (k : ℕ) → k < n → InRows plan.now.source plan.now.event plan.now.target successors.old k }
     requires sets_of { SetsOf [] excited.old successors.old }
-    ensures result_value { verdict_refusal result ≡ transitions_refusal [] (first_transitions source.now event.now target.now n) }
-    ensures sets_of_2 { verdict_refusal result ≡ none → SetsOf (first_transitions source.now event.now target.now n) excited.new successors.new }
+    ensures result_value { verdict_refusal result ≡ transitions_refusal [] (first_transitions plan.now.source plan.now.event plan.now.target n) }
+    ensures sets_of_2 { verdict_refusal result ≡ none → SetsOf (first_transitions plan.now.source plan.now.event plan.now.target n) excited.new successors.new }
 {
-    let mut k = 0;
-    while k < n {
-        let verdict = add_transition(source, event, target, k, excited, successors);
-        if let Verdict::Refused(why) = verdict {
-            return Verdict::Refused(why);
-        }
-        k += 1;
+    for k in 0..n {
+        add_transition(plan, k, excited, successors)?;
     }
-    Verdict::Passed
+    Ok(())
 }
 
-// 6: the lowest event with no transition, which is one that no state excites; the count of events if there is none.
-fn unused_event(excited: &[u64], events: usize) -> usize
-    requires { (length excited.now ≡ 256) × (events ≤ 64) }
+// 6: the lowest event with no transition, which is one that no state excites, if there is one.
+fn unused_event(excited: &[u64; EXCITATION_WORDS], events: usize) -> Option<usize>
+    requires { events ≤ 64 }
     ensures { Unused excited.now events result }
 {
-    let mut e = 0;
-    while e < events {
-        if let Found::Nothing = lowest(load(excited, e)) {
-            return e;
+    for e in 0..events {
+        if lowest(load(excited, e)).is_none() {
+            return Some(e);
         }
-        e += 1;
     }
-    e
+    None
 }
 
 // The states to which one of these states leads.
@@ -123,13 +109,11 @@ fn successors_of(successors: &[u64], states: StateSet) -> StateSet
 {
     let mut rest = states;
     let mut all = StateSet::EMPTY;
-    loop {
-        let Found::State(s) = lowest(rest) else {
-            return all;
-        };
+    while let Some(s) = lowest(rest) {
         rest = without_lowest(rest);
-        all = join(all, load(successors, wide(s)));
+        all = join(all, load(successors, usize::from(s)));
     }
+    all
 }
 
 // The states that are reached. Those that wait are followed together: no load depends on what another of them finds.
@@ -139,81 +123,60 @@ fn reached(successors: &[u64], initial: u8) -> StateSet
 {
     let mut found = single(initial);
     let mut waiting = single(initial);
-    loop {
-        if let Found::Nothing = lowest(waiting) {
-            return found;
-        }
+    while lowest(waiting).is_some() {
         let fresh = without(successors_of(successors, waiting), found);
         waiting = fresh;
         found = join(found, fresh);
     }
+    found
 }
 
-// 7: the lowest of n states that is not reached; n if there is none.
-fn unreached_state(successors: &[u64], initial: u8, n: usize) -> usize
+// 7: the lowest of n states that is not reached, if there is one.
+fn unreached_state(successors: &[u64], initial: u8, n: usize) -> Option<usize>
     requires { Closed successors.now × Has successors.now initial × (n ≤ 256) }
     ensures { Unreached successors.now initial n result }
 {
-    match lowest(without(StateSet::FULL, reached(successors, initial))) {
-        Found::Nothing => n,
-        Found::State(s) => {
-            let k = wide(s);
-            if k < n { k } else { n }
-        }
-    }
+    let lowest_outside = lowest(without(StateSet::FULL, reached(successors, initial)))?;
+    let s = usize::from(lowest_outside);
+    if s < n { Some(s) } else { None }
 }
 
 // 4 to 7 in the paper's order, with a row of empty sets for the successors.
-fn check_with<'a>(
-    c: Counts,
-    source: &'a [u8],
-    event: &'a [u8],
-    target: &'a [u8],
-    excited: &mut [u64],
+fn check_with(
+    plan: &Tables,
+    excited: &mut [u64; EXCITATION_WORDS],
     successors: &mut [u64],
-) -> Verdict
-    requires bounded { Bounded (system_rows c source.now event.now target.now) × Excitations [] excited.old }
-    requires transitions_in_bounds { (c.transitions ≤ length source.now) × (c.transitions ≤ length event.now) × (c.transitions ≤ length target.now) }
-    requires successors { Successors [] successors.old × (c.states * 4 ≤ length successors.old) }
-    ensures result_value { verdict_refusal result ≡ system_refusal (system_of (system_rows c source.now event.now target.now)) }
-    ensures excitations { verdict_refusal result ≡ none → Excitations (system_of (system_rows c source.now event.now target.now)).transitions excited.new }
+) -> Result<(), Refusal>
+    requires bounded { Bounded (system_rows plan.now.counts plan.now.source plan.now.event plan.now.target) × Excitations [] excited.old }
+    requires successors { Successors [] successors.old × (plan.now.counts.states * 4 ≤ length successors.old) }
+    ensures result_value { verdict_refusal result ≡ system_refusal (system_of (system_rows plan.now.counts plan.now.source plan.now.event plan.now.target)) }
+    ensures excitations { verdict_refusal result ≡ none → Excitations (system_of (system_rows plan.now.counts plan.now.source plan.now.event plan.now.target)).transitions excited.new }
 {
-    let n = c.transitions;
-    let forks = add_transitions(source, event, target, n, excited, successors);
-    if let Verdict::Refused(why) = forks {
-        return Verdict::Refused(why);
+    let c = plan.counts;
+    add_transitions(plan, c.transitions, excited, successors)?;
+    if let Some(event) = unused_event(excited, c.events) {
+        return Err(Refusal::UnusedEvent { event }); // 6 idle event
     }
-    let events = c.events;
-    let unused = unused_event(excited, events);
-    if unused < events {
-        return Verdict::Refused(Refusal::UnusedEvent { event: unused }); // 6 idle event
+    if let Some(state) = unreached_state(successors, c.initial as u8, c.states) {
+        return Err(Refusal::Unreachable { state }); // 7 unreached
     }
-    let states = c.states;
-    let state = unreached_state(successors, narrow(c.initial), states);
-    if state < states {
-        return Verdict::Refused(Refusal::Unreachable { state }); // 7 unreached
-    }
-    Verdict::Passed
+    Ok(())
 }
 
 // 4 to 7. Passed, `excited` has the excitation set of each event.
-pub fn check_transition_system<'a>(
-    c: Counts,
-    source: &'a [u8],
-    event: &'a [u8],
-    target: &'a [u8],
-    excited: &mut [u64],
-) -> Verdict
-    requires bounded { Bounded (system_rows c source.now event.now target.now) × Excitations [] excited.old }
-    requires transitions_in_bounds { (c.transitions ≤ length source.now) × (c.transitions ≤ length event.now) × (c.transitions ≤ length target.now) }
-    ensures result_value { verdict_refusal result ≡ system_refusal (system_of (system_rows c source.now event.now target.now)) }
-    ensures excitations { verdict_refusal result ≡ none → Excitations (system_of (system_rows c source.now event.now target.now)).transitions excited.new }
+pub fn check_transition_system(
+    plan: &Tables,
+    excited: &mut [u64; EXCITATION_WORDS],
+) -> Result<(), Refusal>
+    requires { Bounded (system_rows plan.now.counts plan.now.source plan.now.event plan.now.target) × Excitations [] excited.old }
+    ensures result_value { verdict_refusal result ≡ system_refusal (system_of (system_rows plan.now.counts plan.now.source plan.now.event plan.now.target)) }
+    ensures excitations { verdict_refusal result ≡ none → Excitations (system_of (system_rows plan.now.counts plan.now.source plan.now.event plan.now.target)).transitions excited.new }
 {
-    if c.states <= FEW_STATES {
+    if plan.counts.states <= FEW_STATES {
         let mut few = [0u64; FEW_SUCCESSOR_WORDS];
-        check_with(c, source, event, target, excited, &mut few)
+        check_with(plan, excited, &mut few)
     } else {
         let mut successors = [0u64; SUCCESSOR_WORDS];
-        check_with(c, source, event, target, excited, &mut successors)
+        check_with(plan, excited, &mut successors)
     }
 }

@@ -6,7 +6,7 @@ use mathlib.Core.Path.{◌≡◌, refl, ap, sym, ◌∙◌}
 use mathlib.Core.Logic.{◌⊎◌, inl, inr}
 use mathlib.Core.List.{List, [], ◌∷◌, ◌++◌}
 use lib.ListN.{length, get_or, set, take, length-append}
-use lib.Seq.{length-sets, take-suc, take_all}
+use lib.Seq.{length-sets, take-suc}
 use Rattle.model.proofs.Laws.{below_suc}
 use Rattle.model.proofs.ListLaws.{sets_append}
 use Rattle.writers.specs.Written.{Writes}
@@ -41,17 +41,11 @@ pub record Begun (word : List ℕ) (at : ℕ) (out left : List ℕ) (i : ℕ) : 
   pub written : Writes (take i word) at out (at + i) left
 
 module _ {word : List ℕ} {at : ℕ} {out : List ℕ} where
-  pub begun_none : Begun word at out out 0
-  begun_none = let z : at + 0 ≡ at = omega arith in record { most = omega arith; written = rw z writes_none }
-
   module _ {left : List ℕ} {i : ℕ} (p : Begun word at out left i) where
     pub begun_more : i < length word → Begun word at out (set left (at + i) (get_or word i 0)) (i + 1)
     begun_more h =
         let z : at + (i + 1) ≡ at + i + 1 = omega arith in
         record { most = omega arith; written = rw (z, add-one i, take-suc word i 0 h) (writes_append p.written (byte_stored refl)) }
-
-    pub begun_end : length word ≤ i → Writes word at out (at + i) left
-    begun_end h = rw (take_all i word h) at p.written
 
 -- what grows with each item is longest with all
 module _ (f : ℕ → List ℕ) (grows : (n : ℕ) → length (f n) ≤ length (f (n + 1))) where

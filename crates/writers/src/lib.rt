@@ -15,17 +15,17 @@ fn digit(n: usize) -> u8
     b'0' + n as u8
 }
 
-// Bytes into a lent buffer at a position. The answer is the position after them, here and below.
+// Bytes into a lent buffer at a position. The answer is the position after them, here and below. Buffer and position stay two arguments: a struct of both was
+// tried, and the proof of `write_refusal` did not close at its return, where the buffer that was lent to the struct comes back. `copy_from_slice` was slower:
+// it asks whether the two lie apart even at a word that the code spells out.
 pub fn write_bytes(word: &[u8], out: &mut [u8], at: usize) -> usize
     requires { at + length word.now ≤ length out.old }
     ensures { Writes word.now at out.old result out.new }
 {
-    let mut i = 0;
-    while i < word.len() {
-        out[at + i] = word[i];
-        i += 1;
+    for (i, byte) in word.iter().enumerate() {
+        out[at + i] = *byte;
     }
-    at + i
+    at + word.len()
 }
 
 // How many digits a number up to 999 has.
@@ -46,7 +46,7 @@ pub fn figure_len(n: usize) -> usize
 fn tens_at(n: usize) -> usize
     ensures { result ≡ length (digits n) - 2 }
 {
-    if n < 100 { 0 } else { 1 }
+    usize::from(100 <= n)
 }
 
 // How often a unit goes into a number, and what is left.

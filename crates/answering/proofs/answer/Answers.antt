@@ -1,5 +1,4 @@
 -- `answering::answer` meets its contract: the first word asks for the service, and the others lie behind it.
-use borrow.Author.Rules.{rules}
 use Rattle.command_line.specs.WordRow.{words_in}
 use Rattle.command_line.proofs.Cutting.{words_from}
 use Rattle.command_line.proofs.Ending.{ended_part}
@@ -7,7 +6,7 @@ use Rattle.answering.proofs.Saying.{shows_answer, answered}
 use Rattle.answering.proofs.answer.Goals as goal
 
 pub answer_by-requires : goal.answer_by-requires
-answer_by-requires c = (search rules, ended_part _ _ c.requires.1)
+answer_by-requires c = ended_part _ _ c.requires
 
 pub returns : goal.returns
 returns c =

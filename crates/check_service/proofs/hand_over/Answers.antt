@@ -1,19 +1,10 @@
--- `check_service::hand_over` meets its contract: both answers are laws of `Checking` at what the calls have said.
-use mathlib.Core.List.{[]}
+-- `check_service::hand_over` meets its contract: both answers are laws of `Lending` at what the calls have said.
 use Rattle.answers.proofs.Lending.{lends_short, lends_written}
 use Rattle.check_service.proofs.hand_over.Goals as goal
-
-pub sheet_len-size-requires : goal.sheet_len-size-requires
-sheet_len-size-requires c = let p = c.requires in (p.0, p.2)
 
 pub returns-then-lent-size : goal.returns-then-lent-size
 returns-then-lent-size c = λ sources events targets duplicates.
     lends_short _ _ _ (c.sheet_len-size.ensures _ _ sources events targets duplicates c.requires.3) c.if-lent-size.true
-
-pub write_sheet-requires : goal.write_sheet-requires
-write_sheet-requires c =
-    let p = c.requires in
-    record { sheet_ready = p; size_value = (c.sheet_len-size.ensures _ _ [] [] [] [] p.3, c.if-lent-size.false) }
 
 pub returns : goal.returns
 returns c = λ sources events targets duplicates.

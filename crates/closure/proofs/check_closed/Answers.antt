@@ -1,19 +1,15 @@
--- `closure::check_closed` meets its contract: the events passed are closed. The laws are in `Searches`.
+-- The events passed are closed. The laws are in `Searches`.
 use native.Mathlib.Omega.{arith}
 use mathlib.Core.Path.{sym}
 use Rattle.model.specs.Cases.{tabled}
 use Rattle.rows.specs.Tables.{verdict_refusal}
-use Rattle.rows.proofs.Searches.{upto_start}
 use Rattle.closure.proofs.Searches.{none_open, open_more, open_here}
 use Rattle.closure.proofs.check_closed.Goals as goal
 
-pub loop-e-init : goal.loop-e-init
-loop-e-init c = upto_start
-
-pub returns-in-State : goal.returns-in-State
+pub returns-in-Some : goal.returns-in-Some
 unfolding verdict_refusal tabled
-returns-in-State c =
-    open_here _ c.loop-e.invariant c.loop-e-test.true c.open_state.ensures c.in-State.is c.wide.ensures.0
+returns-in-Some c =
+    open_here _ c.loop-e.invariant c.loop-e-test.true c.open_state.ensures c.in-Some.is c.from.ensures
 
 pub loop-e-preserved : goal.loop-e-preserved
 loop-e-preserved c =

@@ -1,5 +1,4 @@
--- `closure::check_closed` meets its contract: the events passed are closed. The laws are in `Searches`.
-use Prim.Native.Nat.{◌-◌}
+-- The events passed are closed. The laws are in `Searches`.
 use mathlib.Core.Path.{◌≡◌}
 use mathlib.Core.Option.{none}
 use Rattle.rows.proofs.Searches.{Upto}
@@ -8,6 +7,3 @@ use Rattle.closure.proofs.check_closed.Given as goal
 
 abbrev pub invariant-loop-e : goal.invariant-loop-e
 invariant-loop-e l = Upto (λ j. open_in l.sets l.pre l.excited l.machines j ≡ none) l.events l.e
-
-abbrev pub decreases-loop-e : goal.decreases-loop-e
-decreases-loop-e l = l.events - l.e

@@ -1,17 +1,17 @@
--- `closure::is_effective` meets its contract: the machines passed do not have the event. The laws are in `Effective`.
-use mathlib.Core.Path.{sym, ◌∙◌}
-use Rattle.closure.proofs.Effective.{on_start, on_more, on_end, on_found}
+-- The event is on one of the machines that `any` goes over, or on none. The laws are in `Effective`.
+use native.Mathlib.Omega.{arith}
+use mathlib.Core.Path.{◌≡◌, refl}
+use mathlib.Core.Bool.{true, false}
+use borrow.Author.Rules.{rules}
+use borrow.Author.Tests.{tests}
+use Rattle.std.proofs.lemmas.Iterator.{cases_from_any, YieldsList-from_range}
+use Rattle.closure.specs.Covers.{on_machine}
+use Rattle.closure.proofs.Effective.{on_any}
 use Rattle.closure.proofs.is_effective.Goals as goal
 
-pub loop-m-init : goal.loop-m-init
-loop-m-init c = on_start
-
-pub returns-then-is_on : goal.returns-then-is_on
-returns-then-is_on c = on_found _ _ _ c.loop-m-test.true (sym c.is_on.ensures ∙ c.if-is_on.true)
-
-pub loop-m-preserved : goal.loop-m-preserved
-loop-m-preserved c =
-    on_more c.loop-m.invariant c.loop-m-test.true (sym c.is_on.ensures ∙ c.if-is_on.false)
-
 pub returns : goal.returns
-returns c = on_end c.loop-m.invariant c.loop-m-test.false
+returns c =
+    let a = c.args in
+    on_any a.pre.now a.e a.machines c.any.result
+    (cases_from_any _ _ _ (λ m. on_machine a.pre.now a.e m ≡ true) (λ m. on_machine a.pre.now a.e m ≡ false) c.any.ensures.ran (YieldsList-from_range 0 a.machines a.machines refl (omega arith))
+    (λ x q k. search (rules, tests)) (λ x q k. search (rules, tests)))

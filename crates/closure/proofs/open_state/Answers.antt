@@ -1,4 +1,4 @@
--- `closure::open_state` meets its contract: from what the four calls gave.
+-- From what the four calls gave.
 use Rattle.closure.proofs.Meeting.{left_open}
 use Rattle.closure.proofs.open_state.Goals as goal
 

@@ -1,5 +1,4 @@
 -- `command_line::event_named` meets its contract: the names passed are others. The laws are in `Declaring`.
-use Prim.Native.Nat.{◌-◌}
 use mathlib.Core.Path.{◌≡◌}
 use mathlib.Core.Bool.{false}
 use Rattle.model.specs.Bytes.{same_name}
@@ -8,7 +7,4 @@ use Rattle.rows.proofs.Names.{name_in}
 use Rattle.command_line.proofs.event_named.Given as goal
 
 abbrev pub invariant-loop-e : goal.invariant-loop-e
-invariant-loop-e l = Upto (λ j. same_name l.word (name_in l.text l.ats l.lens j) ≡ false) l.events l.e
-
-abbrev pub decreases-loop-e : goal.decreases-loop-e
-decreases-loop-e l = l.events - l.e
+invariant-loop-e l = Upto (λ j. same_name l.word (name_in l.text l.plan.name_at l.plan.name_len j) ≡ false) l.plan.counts.events l.e

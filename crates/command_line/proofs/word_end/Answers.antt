@@ -1,17 +1,19 @@
--- `command_line::word_end` meets its contract: the bytes passed are not 0. The laws are in `Cutting`.
-use native.Mathlib.Omega.{arith}
-use borrow.Author.Rules.{rules}
-use Rattle.command_line.proofs.Cutting.{pass_start, pass_more, pass_end}
+-- `command_line::word_end` meets its contract: the bytes before the place that is found are not 0. The laws are in `Cutting`.
+use mathlib.Core.Path.{◌≡◌}
+use borrow.Author.Tests.{tests}
+use Rattle.std.proofs.Common.{rules, Some, None}
+use Rattle.std.proofs.lemmas.Iterator.{YieldsList-from_slice, IsFirst-from_position}
+use Rattle.command_line.proofs.Cutting.{cut_found, cut_rest}
 use Rattle.command_line.proofs.word_end.Goals as goal
 
-pub loop-end-init : goal.loop-end-init
-loop-end-init c = pass_start (search rules)
+pub returns-in-Some : goal.returns-in-Some
+returns-in-Some c =
+    cut_found c.args.words.now c.args.at (search rules) c.in-Some.len
+    (IsFirst-from_position _ _ (Some c.in-Some.len) (λ x. x ≡ 0) (λ x. x ≡ 0 → ⊥) c.in-Some.ensures.ran (YieldsList-from_slice _ cc) (λ x q k. search (rules, tests))
+    (λ x q k. search (rules, tests)))
 
-pub returns-then-words-end-eq0 : goal.returns-then-words-end-eq0
-returns-then-words-end-eq0 c = pass_end c.loop-end.invariant (λ _. c.if-words-end-eq0.true)
-
-pub loop-end-preserved : goal.loop-end-preserved
-loop-end-preserved c = pass_more c.loop-end.invariant c.loop-end-test.true c.if-words-end-eq0.false
-
-pub returns : goal.returns
-returns c = pass_end c.loop-end.invariant (λ l. absurd (omega (arith, c.loop-end-test.false)))
+pub returns-in-None : goal.returns-in-None
+returns-in-None c =
+    cut_rest c.args.words.now c.args.at (search rules)
+    (IsFirst-from_position _ _ None (λ x. x ≡ 0) (λ x. x ≡ 0 → ⊥) c.in-None.ensures.ran (YieldsList-from_slice _ cc) (λ x q k. search (rules, tests))
+    (λ x q k. search (rules, tests)))

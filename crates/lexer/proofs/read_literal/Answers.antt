@@ -1,24 +1,11 @@
 -- `lexer::read_literal` meets its contract: the loop compares two texts, and `Runs` has its laws.
-use mathlib.Core.Path.{refl}
-use native.Mathlib.Omega.{arith}
-use Rattle.lexer.proofs.Runs.{match_more, match_differ, match_short, match_end}
+use Rattle.lexer.proofs.Runs.{match_differ, match_short}
 use Rattle.lexer.proofs.read_literal.Goals as goal
+use Rattle.lexer.proofs.read_literal.Goals.{then-s-at-via-then-s-at, then-s-at-via-else-s-at+then-s-at-2}
 
-pub loop-i-init : goal.loop-i-init
-loop-i-init c = record { left = refl; along = omega arith; within = omega arith }
-
-pub returns-then-s-j : goal.returns-then-s-j
-returns-then-s-j c = match_short c.loop-i.invariant c.loop-i-test.true c.if-s-j.true
-
-pub returns-then-s-j-2 : goal.returns-then-s-j-2
-returns-then-s-j-2 c =
-    match_differ c.loop-i.invariant c.loop-i-test.true
-    c.if-s-j.false c.if-s-j-2.true
-
-pub loop-i-preserved : goal.loop-i-preserved
-loop-i-preserved c =
-    match_more c.loop-i.invariant c.loop-i-test.true
-    c.if-s-j.false c.if-s-j-2.false
-
-pub returns : goal.returns
-returns c = match_end c.loop-i.invariant c.loop-i-test.false
+pub returns-then-s-at : goal.returns-then-s-at
+returns-then-s-at c =
+    elim c.then-s-at.branch [
+      | then-s-at-via-then-s-at w ↦ match_short c.loop-i.invariant c.loop-i-test.true w.if-s-at.true
+      | then-s-at-via-else-s-at+then-s-at-2 w ↦ match_differ c.loop-i.invariant c.loop-i-test.true w.if-s-at.false w.if-s-at-2.true
+    ]

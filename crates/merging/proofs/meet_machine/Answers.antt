@@ -7,6 +7,3 @@ pub unite-requires : goal.unite-requires
 unite-requires c =
     let p = c.requires in
     (p.0, p.1, p.3, p.4, no_unions 256 refl _ _ _)
-
-pub returns : goal.returns
-returns c = record { unions = _; united = c.unite.ensures; narrowed = c.narrow_common.ensures }

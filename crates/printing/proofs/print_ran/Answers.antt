@@ -1,11 +1,12 @@
 -- `printing::print_ran` meets its contract: the refusal's line, or how far the run went and the places. The laws are in `Runs`.
 use native.Mathlib.Omega.{arith}
+use borrow.Author.Rules.{rules}
 use mathlib.Core.Option.{some}
 use mathlib.Core.Path.{sym}
+use lib.ListN.{length-take}
 use Rattle.model.specs.Printed.{ran_word}
 use Rattle.writers.specs.Written.{Writes}
 use Rattle.writers.proofs.Writing.{writes_append, writes_length}
-use Rattle.writers.proofs.Refusals.{numeral_most}
 use Rattle.printing.proofs.Showing.{shows_same}
 use Rattle.printing.proofs.Lines.{shows_as}
 use Rattle.printing.proofs.Places.{places_most}
@@ -24,37 +25,12 @@ begun c =
     (writes_append c.write_bytes-c.ensures (writes_append c.write_numeral-d.ensures c.write_bytes-e.ensures)))
 
 pub write_places-requires : goal.write_places-requires
-write_places-requires c = (few_whole c.requires.1 c.in-Whole.is, omega arith)
-
-pub write_numeral-b-requires : goal.write_numeral-b-requires
-write_numeral-b-requires c = omega (arith, numeral_most c.in-Blocked.ran)
-
-pub write_bytes-c-requires : goal.write_bytes-c-requires
-write_bytes-c-requires c = omega (
-  arith,
-  numeral_most c.in-Blocked.ran,
-)
-
-pub write_numeral-d-requires : goal.write_numeral-d-requires
-write_numeral-d-requires c =
-    omega (
-      arith,
-      numeral_most c.in-Blocked.ran,
-      numeral_most c.in-Blocked.machine,
-    )
-
-pub write_bytes-e-requires : goal.write_bytes-e-requires
-write_bytes-e-requires c =
-    omega (
-      arith,
-      numeral_most c.in-Blocked.ran,
-      numeral_most c.in-Blocked.machine,
-    )
+write_places-requires c = (omega (arith, few_whole c.requires c.in-Whole.is, length-take c.args.machines c.args.answer.places), omega arith)
 
 pub write_places-requires-in-Blocked : goal.write_places-requires-in-Blocked
 write_places-requires-in-Blocked c =
     let w = begun (goal.at.write_places-requires-in-Blocked c).After-write_bytes-e in
-    (few_blocked c.requires.1 c.in-Blocked.is, omega (arith, w.after, writes_length w, c.requires.0, blocked_most c.in-Blocked.ran c.in-Blocked.machine))
+    (omega (arith, few_blocked c.requires c.in-Blocked.is, length-take c.args.machines c.args.answer.places), omega (arith, w.after, writes_length w, blocked_most c.in-Blocked.ran c.in-Blocked.machine))
 
 pub returns-in-Refused : goal.returns-in-Refused
 returns-in-Refused c =
@@ -63,7 +39,7 @@ returns-in-Refused c =
 pub returns-in-Whole : goal.returns-in-Whole
 returns-in-Whole c =
     shows_as (line_whole _ c.in-Whole.is) (writes_append c.write_bytes-a.ensures c.write_places.ensures)
-    (omega (arith, places_most c.args.answer.places c.args.machines (few_whole c.requires.1 c.in-Whole.is))) c.requires.0
+    (omega (arith, places_most c.args.answer.places c.args.machines (few_whole c.requires c.in-Whole.is))) (search rules)
 
 pub returns-in-Blocked : goal.returns-in-Blocked
 returns-in-Blocked c =
@@ -75,6 +51,6 @@ returns-in-Blocked c =
       w.after,
       v.after,
       blocked_most c.in-Blocked.ran c.in-Blocked.machine,
-      places_most c.args.answer.places c.args.machines (few_blocked c.requires.1 c.in-Blocked.is),
+      places_most c.args.answer.places c.args.machines (few_blocked c.requires c.in-Blocked.is),
     ))
-    c.requires.0
+    (search rules)

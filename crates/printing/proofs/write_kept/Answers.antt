@@ -1,7 +1,4 @@
 -- `printing::write_kept` meets its contract: the numbers of the machines kept among those passed are written. The laws are in `Kept`.
-use native.Mathlib.Omega.{arith}
-use Rattle.writers.proofs.Writing.{writes_length}
-use Rattle.printing.proofs.Lengths.{numeral_two}
 use Rattle.printing.proofs.Kept.{Led, keeping_none, keeping_skip, keeping_add, keeping_end, led_space, led_none}
 use Rattle.printing.proofs.write_kept.Goals.{Joined-i-at, then-machines-m-eq1, then-i-at, else-i-at, else-machines-m-eq1}
 use Rattle.printing.proofs.write_kept.Goals as goal
@@ -15,14 +12,6 @@ led c =
 pub loop-m-init : goal.loop-m-init
 loop-m-init c = keeping_none
 
-pub write_bytes-i-requires : goal.write_bytes-i-requires
-write_bytes-i-requires c = omega (arith, writes_length c.loop-m.invariant.written)
-
-pub write_numeral-i-requires : goal.write_numeral-i-requires
-write_numeral-i-requires c =
-    let w = led (goal.at.write_numeral-i-requires c).Joined-i-at in
-    omega (arith, w.short, writes_length w.written, numeral_two c.loop-m.m (omega arith))
-
 pub loop-m-preserved : goal.loop-m-preserved
 loop-m-preserved c =
     let inv = c.loop-m.invariant in
@@ -33,9 +22,6 @@ loop-m-preserved c =
           rw (w.out-is, w.i-is) (keeping_add p c.loop-m-test.true w.if-machines-m-eq1.true w.write_numeral-i.ensures)
       | else-machines-m-eq1 w ↦ rw (w.out-is, w.i-is) (keeping_skip inv c.loop-m-test.true w.if-machines-m-eq1.false)
     ]
-
-pub shape_of-out : goal.shape_of-out
-shape_of-out c = writes_length c.loop-m.invariant.written
 
 pub returns : goal.returns
 returns c =

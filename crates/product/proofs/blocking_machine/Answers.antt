@@ -1,17 +1,15 @@
 -- `product::blocking_machine` meets its contract: the machines passed do not block. The laws are in `Moving`.
-use Rattle.product.proofs.Moving.{pass_start, pass_more, pass_found, pass_end}
+use Rattle.std.proofs.Common.{arith, below_more}
+use Rattle.model.proofs.Laws.{lowest_is, none_lowest}
+use Rattle.product.proofs.Moving.{passes, blocks}
 use Rattle.product.proofs.blocking_machine.Goals as goal
-
-pub loop-left-init : goal.loop-left-init
-loop-left-init c = pass_start
 
 pub returns-then-not-is_ready : goal.returns-then-not-is_ready
 returns-then-not-is_ready c =
-    pass_found c.loop-left.invariant c.loop-left-test.true c.is_ready.ensures c.if-not-is_ready.true-raw
+    lowest_is _ _ c.loop-m.m c.loop-m-test.true (blocks _ _ _ c.loop-m.m c.is_ready.ensures c.if-not-is_ready.true) c.loop-m.invariant
 
-pub loop-left-preserved : goal.loop-left-preserved
-loop-left-preserved c =
-    pass_more c.loop-left.invariant c.loop-left-test.true c.is_ready.ensures c.if-not-is_ready.false-raw
+pub loop-m-preserved : goal.loop-m-preserved
+loop-m-preserved c = below_more _ _ c.loop-m.invariant (passes _ _ _ c.loop-m.m c.is_ready.ensures c.if-not-is_ready.false)
 
 pub returns : goal.returns
-returns c = pass_end c.loop-left.invariant c.loop-left-test.false
+returns c = none_lowest _ _ (λ k l. c.loop-m.invariant k (omega arith))

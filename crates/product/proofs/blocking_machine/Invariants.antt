@@ -1,9 +1,7 @@
 -- `product::blocking_machine` meets its contract: the machines passed do not block. The laws are in `Moving`.
-use Rattle.product.proofs.Moving.{Passing}
+use Rattle.std.proofs.Common.{ℕ, ◌<◌, T, not}
+use Rattle.product.specs.Stepping.{blocks_at}
 use Rattle.product.proofs.blocking_machine.Given as goal
 
-abbrev pub invariant-loop-left : goal.invariant-loop-left
-invariant-loop-left l = Passing l.pre l.machines l.places l.e l.left
-
-abbrev pub decreases-loop-left : goal.decreases-loop-left
-decreases-loop-left l = l.left
+abbrev pub invariant-loop-m : goal.invariant-loop-m
+invariant-loop-m l = (k : ℕ) → k < l.m → T (not (blocks_at l.moves.pre l.places l.e k))

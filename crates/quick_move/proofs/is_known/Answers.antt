@@ -4,5 +4,6 @@ use Rattle.quick_move.proofs.is_known.Goals as goal
 
 pub returns : goal.returns
 returns c =
-    let a = c.args in
-    known a.len.now a.high.now a.low.now a.n a.h a.l a.k a.count _ c.is_name_at.ensures
+    let r = c.args.names.now in
+    let n = c.args.name in
+    known r.«len» r.high r.low n.«len» n.high n.low c.args.k r.count _ c.is_at.ensures

@@ -3,5 +3,4 @@ use Rattle.quick_words.proofs.Packing.{four}
 use Rattle.quick_words.proofs.four_bytes.Goals as goal
 
 pub returns : goal.returns
-returns c =
-    four c.args.s.now c.args.at _ c.requires c.pack_four.ensures.0
+returns c = four c.args.s.now c.args.at _ c.requires c.from_be_bytes.ensures

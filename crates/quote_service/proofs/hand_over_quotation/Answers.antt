@@ -10,5 +10,5 @@ returns-then-out-size c = short_buffer _ _ c.write_quotation-size.ensures c.if-o
 
 pub returns : goal.returns
 returns c =
-    copied _ _ c.write_quotation-size.ensures (omega (arith, c.requires.1, length-replicate {A = ℕ} 2566 0))
+    copied _ _ c.write_quotation-size.ensures (omega (arith, c.requires.short, length-replicate {A = ℕ} 2566 0))
     c.if-out-size.false c.write_bytes.ensures

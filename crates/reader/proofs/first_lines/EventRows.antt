@@ -5,7 +5,7 @@ use mathlib.Core.Path.{◌≡◌, ap}
 use lib.ListN.{length}
 use Rattle.model.specs.Reading.{Parsed}
 use Rattle.model.specs.Form.{Line}
-use Rattle.lines.specs.declared.EventsAt.{EventsAt}
+use Rattle.lines.specs.declared.EventsLine.{EventsLine}
 use Rattle.rows.specs.Rows.{row}
 use Rattle.lines.specs.Lines.{spots, names_from, EventRows, FullRows, with_names}
 use Rattle.lines.proofs.Found.{GotEvents}
@@ -23,7 +23,7 @@ fresh_full e =
     }
 
 -- the rows that an events line leaves in them
-module _ {o : Parsed Line} {at : ℕ} {r : EventsAt} {before after : EventRows} (g : GotEvents o at r before after) (fresh : before ≡ no_names) where
+module _ {o : Parsed Line} {at : ℕ} {r : EventsLine} {before after : EventRows} (g : GotEvents o at r before after) (fresh : before ≡ no_names) where
   stored : after ≡ with_names (names_from at) no_names g.names
   stored = rw fresh at g.rows
 

@@ -1,5 +1,5 @@
 -- The section of machine lines: what is read so far, and what each way out of the loop promises.
-use Prim.Native.Nat.{ℕ, ◌+◌, ◌*◌, ◌<◌, ◌≤◌}
+use Prim.Native.Nat.{ℕ, ◌+◌, ◌-◌, ◌*◌, ◌<◌, ◌≤◌}
 use native.Mathlib.Omega.{arith}
 use mathlib.Core.Path.{◌≡◌, refl, ap, sym, ◌∙◌}
 use mathlib.Core.Logic.{◌⊎◌, inl, inr, ⊎_elim}
@@ -10,6 +10,7 @@ use lib.Dec.{ltb, leb}
 use borrow.Author.Tests.{ltb-true, ltb-false, leb-true, leb-false}
 use lib.ListN.{length, set, length-append}
 use lib.Seq.{sets}
+use borrow.Rule.Slice.PartMut.{put_mid}
 use Rattle.model.specs.Refusal.{Checked, refused}
 use Rattle.model.specs.declared.Refusal.TheVariants as C
 use Rattle.model.specs.declared.Refusal as D
@@ -27,10 +28,10 @@ use Rattle.lines.specs.Lines.{duplicate_mark, all_below}
 use Rattle.model.proofs.ListLaws.{sets_append}
 use Rattle.rows.proofs.Rows.{length_place_row}
 use Rattle.lines.proofs.Found.{GotMachine}
-use Rattle.reader.specs.declared.Section.{Section}
-use Rattle.reader.specs.declared.Section.TheVariants.{Refused, Read}
-use Rattle.reader.specs.Sections.{Rest, begun, MachineRows, machine_rows, with_machines, MachinesFound, MachinesRead, ReadsMachines}
+use Rattle.std.specs.Prelude.{Ok, Err}
+use Rattle.reader.specs.Sections.{Rest, begun, MachineRows, machine_rows, with_machines, ReadsMachines}
 use Rattle.reader.proofs.Rest.{and_not}
+use Rattle.reader.proofs.Stores.{stored}
 use Rattle.model.proofs.ListLaws.{store}
 use Rattle.reader.proofs.Phases.{machines_none, machines_end, machine_fail, machine_many, machine_places, machine_undeclared, machine_more}
 
@@ -77,28 +78,26 @@ within_not k p e = ⊎_elim (λ a. inl (ltb-false k 16 a)) (λ b. inr (leb-false
 module _ {s : List ℕ} {at n line : ℕ} {before : MachineRows} {k i : ℕ} {now : MachineRows} (z : SoFar s at n line before k i now) where
   -- the line that stands next is refused
   section_stop : (why : D.Refusal) → ((o : Option ℕ) (es : List Name) (ts : List Named) (c : Checked Input) → line ≡ 3 + length ts → Machines s n o es ts c k i before now
-      → c ≡ refused (tabled why)) → ReadsMachines s at n line (Refused why) before now
-  unfolding ReadsMachines MachinesRead
+      → c ≡ refused (tabled why)) → ReadsMachines s at n line (Err why) before now
   section_stop why f = λ o es ts c p l r. f o es ts c p (z.so_far o es ts c p l r)
 
   -- the end of the text
-  pub section_none : length s ≤ i → k ≡ 0 → ReadsMachines s at n line (Refused (C.LimitExceeded line)) before now
+  pub section_none : length s ≤ i → k ≡ 0 → ReadsMachines s at n line (Err (C.LimitExceeded line)) before now
   unfolding tabled
   section_none h e = section_stop (C.LimitExceeded line) (λ o es ts c p t. machines_none ts t.machines t.rest t.counted p h e)
 
-  pub section_end : length s ≤ i → (k ≡ 0 → ⊥) → ReadsMachines s at n line (Read k i) before now
-  unfolding ReadsMachines MachinesRead
+  pub section_end : length s ≤ i → (k ≡ 0 → ⊥) → ReadsMachines s at n line (Ok k) before now
   section_end h e = λ o es ts c p l r.
       let t = z.so_far o es ts c p l r in
       record { machines = t.machines; whole = machines_end ts t.machines t.rest t.counted p h (omega (arith, e)); counted = t.counted; rows = t.rows }
 
   -- no machine line stands next
-  pub section_malformed : i < length s → machine_line s i ≡ fail → ReadsMachines s at n line (Refused (C.Malformed (line + k))) before now
+  pub section_malformed : i < length s → machine_line s i ≡ fail → ReadsMachines s at n line (Err (C.Malformed (line + k))) before now
   unfolding tabled
   section_malformed h e = section_stop (C.Malformed (line + k)) (λ o es ts c p t. machine_fail ts t.machines t.rest t.counted p t.last h e)
 
   module _ {m : MachineLine} (g : GotMachine n (machine_line s i) m) where
-    pub section_limit : (ltb k 16 && leb m.places 64) ≡ false → ReadsMachines s at n line (Refused (C.LimitExceeded (line + k))) before now
+    pub section_limit : (ltb k 16 && leb m.places 64) ≡ false → ReadsMachines s at n line (Err (C.LimitExceeded (line + k))) before now
     unfolding tabled
     section_limit e = section_stop (C.LimitExceeded (line + k)) (λ o es ts c p t. go o es ts c p t (within_not k m.places e))
       where
@@ -111,7 +110,7 @@ module _ {s : List ℕ} {at n line : ℕ} {before : MachineRows} {k i : ℕ} {no
       small : length g.listed ≤ 64
       small = omega (arith, within_both k m.places w, g.counted)
 
-      pub section_undeclared : m.declared ≡ false → ReadsMachines s at n line (Refused (C.Undeclared (line + k))) before now
+      pub section_undeclared : m.declared ≡ false → ReadsMachines s at n line (Err (C.Undeclared (line + k))) before now
       unfolding tabled
       section_undeclared e =
           section_stop (C.Undeclared (line + k))
@@ -123,6 +122,13 @@ module _ {s : List ℕ} {at n line : ℕ} {before : MachineRows} {k i : ℕ} {no
 
         pub section_room : (k < 16) × (length m.row ≡ 256)
         section_room = ((within_both k m.places w).0, ap length (g.row_is small declared) ∙ length_place_row g.listed)
+
+        -- its row, copied to its place in the table
+        pub section_place : {part : List ℕ} → part ≡ m.row → length now.places ≡ 4096
+            → put_mid (k * 256) (k * 256 + 256 - k * 256) now.places part ≡ sets now.places (k * 256) m.row
+        section_place p l =
+            ap (put_mid (k * 256) (k * 256 + 256 - k * 256) now.places) p
+            ∙ stored now.places m.row (k * 256) (k * 256 + 256 - k * 256) (omega (arith, section_room.1)) (omega (arith, section_room.0))
 
         -- it is within its limits and declared, and its numbers are stored
         pub section_more : {table : List ℕ} → table ≡ sets now.places (k * 256) m.row
@@ -150,14 +156,3 @@ module _ {s : List ℕ} {at n line : ℕ} {before : MachineRows} {k i : ℕ} {no
                         ((q ∙ store_row now.places before.places ms x k m.row (ap (λ (y : MachineRows). y.places) t.rows) t.counted (g.row_is small declared)) o);
                   };
             }
-
--- what is promised of a section that was read, and of one that was refused
-pub machines_found : {n : ℕ} {o : Option ℕ} {es : List Name} {ts : List Named} {c : Checked Input} {k next : ℕ} {before after : MachineRows} {r : Section} → r ≡ Read k next
-    → MachinesRead n o es ts c r before after → MachinesFound n o es ts c k before after
-unfolding MachinesRead
-machines_found q h = rw q at h
-
-pub machines_refused : (n : ℕ) (o : Option ℕ) (es : List Name) (ts : List Named) (before after : MachineRows) {c : Checked Input} {why : D.Refusal} {r : Section} → r ≡ Refused why
-    → MachinesRead n o es ts c r before after → c ≡ refused (tabled why)
-unfolding MachinesRead
-machines_refused n o es ts before after q h = rw q at h

@@ -1,41 +1,61 @@
--- `reader::read_rows` meets its contract: the promise of the first two lines, then that of the others.
-use native.Mathlib.Omega.{arith}
-use lib.ListN.{replicate}
-use Rattle.lines.specs.Lines.{EventRows, event_rows}
-use Rattle.reader.specs.Sections.{FirstFound, FirstRead, transition_rows, machine_rows, ReadsLines}
-use Rattle.reader.proofs.Phases.{first_read}
-use Rattle.reader.proofs.Answering.{rows_refused, answering_rows}
-use Rattle.reader.proofs.read_rows.Goals.{After-read_first_lines, In-Read}
+-- `reader::read_rows` meets its contract: the promise of the first two lines, then that of the others. What one section reads the others leave as it is.
+use Rattle.std.proofs.Common.{◌≡◌, ap, ◌∙◌, arith}
+use Rattle.std.proofs.lemmas.Result.{err_from_is_err_and}
+use Rattle.rows.specs.declared.Tables.{Tables}
+use Rattle.reader.specs.Sections.{transition_rows, rows_of_steps, machine_rows, rows_of_machines, no_steps, no_machines}
+use Rattle.reader.proofs.Answering.{rows_refused, rows_passed, answering_rows}
+use Rattle.reader.proofs.read_rows.Goals.{After-read_first_lines, After-read_transitions, After-read_machines}
 use Rattle.reader.proofs.read_rows.Goals as goal
 
-abbrev rows : After-read_first_lines → EventRows
-rows c = event_rows c.read_first_lines.new.spot c.read_first_lines.new.len c.read_first_lines.new.high c.read_first_lines.new.low
+pub returns-in_err-d : goal.returns-in_err-d
+returns-in_err-d c =
+    let p = err_from_is_err_and c.from_residual.result c.from_residual.ensures.1 in
+    let counts = ap (λ (p : Tables). p.counts) c.read_first_lines.ensures.others ∙ c.requires.counts in
+    let all = answering_rows _ (rows_refused c.in_err-d.ensures.first_read counts) in
+    rw (p.1, p.2) (record { verdict_value = all.0; reads_rows = all.1 })
 
-first : (c : In-Read) → FirstFound c.args.text.now c.in-Read.d (rows (goal.at.In-Read c).After-read_first_lines)
-first c = first_read c.in-Read.is c.read_first_lines.ensures
-
-pub read_first_lines-requires : goal.read_first_lines-requires
-read_first_lines-requires c =
-    let f = c.requires in
-    λ i. event_rows (f.fresh_name_at i) (f.fresh_name_len i) (replicate 64 0) (replicate 64 0)
-
-pub read_lines-requires : goal.read_lines-requires
-read_lines-requires c =
-    let e = (first (goal.at.read_lines-requires c).In-Read).found in
-    let f = c.requires in
-    record { states_bound = ((first (goal.at.read_lines-requires c).In-Read).few, omega (arith, e.held.rows.counted, e.held.rows.most), record { names = e.names; held = e.held }); target_value = (λ i. transition_rows (f.fresh_source i) (f.fresh_event i) (f.fresh_target i), λ i. machine_rows (f.fresh_sizes i) (f.fresh_duplicate i) (f.fresh_place i)) }
-
-pub returns-in-Refused : goal.returns-in-Refused
-unfolding FirstRead
-returns-in-Refused c =
-    let all = answering_rows _
-    (rows_refused (rw c.in-Refused.is at c.read_first_lines.ensures) c.no_counts.ensures.verdict_value c.no_counts.ensures.counts_value) in
-    record { verdict_value = all.0; reads_rows = all.1 }
-
-pub returns-in-Read : goal.returns-in-Read
-unfolding ReadsLines
-returns-in-Read c =
-    let f = first (goal.at.returns-in-Read c).In-Read in
+pub returns-in_err-steps : goal.returns-in_err-steps
+returns-in_err-steps c =
+    let p = err_from_is_err_and c.from_residual-in_err-steps.result c.from_residual-in_err-steps.ensures.1 in
+    let counts =
+    ap (λ (p : Tables). p.counts) c.read_transitions.ensures.others ∙ ap (λ (p : Tables). p.counts) c.read_first_lines.ensures.others ∙ c.requires.counts in
+    let f = c.in_ok-d.ensures.first_read in
     let e = f.found in
-    let all = answering_rows _ (c.read_lines.ensures f.start e.names _ _ f.initial e.held e.placed e.rest) in
+    let all = answering_rows _ (rows_refused (c.in_err-steps.ensures.reads_steps f.start e.names _ e.held e.rest) counts) in
+    rw (p.1, p.2) (record { verdict_value = all.0; reads_rows = all.1 })
+
+pub returns-in_err-machines : goal.returns-in_err-machines
+returns-in_err-machines c =
+    let p = err_from_is_err_and c.from_residual-in_err-machines.result c.from_residual-in_err-machines.ensures.1 in
+    let counts =
+    ap (λ (p : Tables). p.counts) c.read_machines.ensures.others
+    ∙ ap (λ (p : Tables). p.counts) c.read_transitions.ensures.others ∙ ap (λ (p : Tables). p.counts) c.read_first_lines.ensures.others ∙ c.requires.counts in
+    let f = c.in_ok-d.ensures.first_read in
+    let e = f.found in
+    let t = c.in_ok-steps.ensures.reads_steps f.start e.names _ e.held e.rest in
+    let u = c.in_err-machines.ensures.reads_machines f.start e.names t.steps _ (omega (arith, t.counted)) t.last t.rest in
+    let all = answering_rows _ (rows_refused u counts) in
+    rw (p.1, p.2) (record { verdict_value = all.0; reads_rows = all.1 })
+
+pub returns : goal.returns
+returns c =
+    let fresh = c.requires.rows in
+    let first = c.read_first_lines.ensures.others in
+    let second = c.read_transitions.ensures.others in
+    let third = c.read_machines.ensures.others in
+    let f = c.in_ok-d.ensures.first_read in
+    let e = f.found in
+    let t = c.in_ok-steps.ensures.reads_steps f.start e.names _ e.held e.rest in
+    let u = c.in_ok-machines.ensures.reads_machines f.start e.names t.steps _ (omega (arith, t.counted)) t.last t.rest in
+    let lens =
+    ap (λ (p : Tables). p.name_len) third ∙ ap (λ (p : Tables). p.name_len) second ∙ c.in_ok-d.ensures.lengths ∙ e.held.rows.lengths in
+    let ats = ap (λ (p : Tables). p.name_at) third ∙ ap (λ (p : Tables). p.name_at) second ∙ e.placed in
+    let before : rows_of_steps c.read_first_lines.new.plan ≡ no_steps =
+    ap rows_of_steps first ∙ (λ i. transition_rows (fresh.fresh_source i) (fresh.fresh_event i) (fresh.fresh_target i)) in
+    let unread : rows_of_machines c.read_transitions.new.plan ≡ no_machines =
+    ap rows_of_machines second ∙ ap rows_of_machines first ∙ (λ i. machine_rows (fresh.fresh_sizes i) (fresh.fresh_duplicate i) (fresh.fresh_place i)) in
+    let all =
+    answering_rows _
+    (rows_passed f.start e.names t.steps u.machines f.initial e.held.rows.counted lens ats before unread u.whole t.counted (ap rows_of_steps third ∙ t.rows)
+    u.counted u.rows) in
     record { verdict_value = all.0; reads_rows = all.1 }

@@ -2,14 +2,12 @@
 use Prim.Native.Nat.{ℕ, ◌+◌, ◌<◌, ◌≤◌}
 use native.Mathlib.Omega.{arith}
 use mathlib.Core.Path.{◌≡◌, refl, ap, sym, ◌∙◌}
-use mathlib.Core.Logic.{◌⊎◌, inl, inr, ⊎_elim}
-use mathlib.Core.Bool.{Bool, true, false, ◌&&◌, and-eq-true_iff}
+use mathlib.Core.Logic.{◌⊎◌, inl, inr}
 use mathlib.Core.List.{List, [], ◌∷◌, ◌++◌}
 use mathlib.Core.Option.{Option}
-use lib.Dec.{T, ltb}
-use borrow.Author.Tests.{ltb-true, ltb-false}
+use lib.Dec.{T}
 use lib.ListN.{length, get_or, set, length-append}
-use Rattle.model.specs.Refusal.{Checked, refused}
+use Rattle.model.specs.Refusal.{Checked}
 use Rattle.model.specs.declared.Refusal as D
 use Rattle.model.specs.declared.Refusal.TheVariants as C
 use Rattle.model.specs.Cases.{tabled}
@@ -18,17 +16,15 @@ use Rattle.model.specs.Reading.{Parsed, fail, got}
 use Rattle.model.specs.Form.{Line, step, step_line}
 use Rattle.model.specs.Text.{Input, event_number, distinct}
 use Rattle.model.proofs.Values.{Named}
-use Rattle.lines.specs.declared.StepWords.{StepWords}
+use Rattle.lexer.specs.declared.PackedName.{PackedName}
+use Rattle.lines.specs.declared.StepLine.{StepLine}
 use Rattle.lines.proofs.Found.{GotStep}
 use Rattle.names.specs.Held.{Finds}
 use Rattle.names.proofs.Lookup.{event_number_lem}
 use Rattle.quick_step_line.specs.Quick.{ReadsStep}
-use Rattle.reader.specs.declared.step_lines.StepAt.{StepAt}
-use Rattle.reader.specs.declared.step_lines.StepAt.TheVariants as A
-use Rattle.reader.specs.declared.Section.{Section}
-use Rattle.reader.specs.declared.Section.TheVariants.{Refused, Read}
-use Rattle.reader.specs.Sections.{DistinctRows, Declares, Rest, begun, TransitionRows, transition_rows, with_steps, StepFound, StepRefused, StepRead, count_of, StepsFound, StepsRead, ReadsSteps}
-use Rattle.reader.proofs.Rest.{and_not}
+use Rattle.std.specs.Prelude as Std
+use Rattle.std.specs.Prelude.{Some, None, Ok, Err}
+use Rattle.reader.specs.Sections.{DistinctRows, Declares, Rest, begun, TransitionRows, transition_rows, with_steps, StepFound, StepRefused, ReadsSteps}
 use Rattle.model.proofs.ListLaws.{store}
 use Rattle.reader.proofs.Phases.{step_many, step_source, step_target, step_event, step_more}
 
@@ -68,25 +64,12 @@ pub record SoFar (s : List ℕ) (at n count : ℕ) (lens highs lows : List ℕ) 
   pub states : n ≤ 256
   pub so_far : (o : Option ℕ) (es : List Name) (c : Checked Input) → DistinctRows es count lens highs lows → Rest s (begun n o es []) at c → Steps s n o es c k i before now
 
--- three tests in one
-abbrev Test : ℕ → ℕ → ℕ → ℕ → ℕ → Bool
-Test a b n e m = ltb a n && (ltb e m && ltb b n)
-
-pub all_below_lem : (a b n e m : ℕ) → Test a b n e m ≡ true → (a < n) × (b < n) × (e < m)
-all_below_lem a b n e m h =
-    let (p, r) = (and-eq-true_iff (ltb a n) (ltb e m && ltb b n)).0 h in
-    let (q, o) = (and-eq-true_iff (ltb e m) (ltb b n)).0 r in
-    (ltb-true a n p, ltb-true b n o, ltb-true e m q)
-
-one_above : (a b n e m : ℕ) → Test a b n e m ≡ false → (n ≤ a) ⊎ ((m ≤ e) ⊎ (n ≤ b))
-one_above a b n e m h =
-    ⊎_elim (λ p. inl (ltb-false a n p)) (λ r. inr (⊎_elim (λ p. inl (ltb-false e m p)) (λ p. inr (ltb-false b n p)) (and_not (ltb e m) (ltb b n) r)))
-    (and_not (ltb a n) (ltb e m && ltb b n) h)
-
--- the number that is found is that of the line's event
-number : {o : Parsed Line} {w : StepWords} {count x : ℕ} {lens highs lows : List ℕ} (g : GotStep o w)
-    → Finds count lens highs lows w.«len» w.«high» w.«low» x → (es : List Name) → DistinctRows es count lens highs lows → x ≡ event_number es g.name
-number g f es d = f.number es d.rows g.name g.is_name_lem g.long g.high_is g.low_is
+-- the number that is found is that of the line's event; if none is, the count is
+number : {o : Parsed Line} {w : StepLine} {count : ℕ} {x : Std.Option ℕ} {lens highs lows : List ℕ} (g : GotStep o w)
+    → Finds count lens highs lows w.name.«len» w.name.«high» w.name.«low» x → (es : List Name) → DistinctRows es count lens highs lows
+    → Std.unwrap_or x count ≡ event_number es g.name
+number g f es d =
+    f.number es d.rows g.name g.is_name_lem (ap (λ (n : PackedName). n.«len») g.told) (ap (λ (n : PackedName). n.high) g.told) (ap (λ (n : PackedName). n.low) g.told)
 
 -- the line that is read quickly
 abbrev QuickLine : List ℕ → ℕ → List Name → ℕ → ℕ → ℕ → ℕ → Type 0
@@ -103,21 +86,19 @@ module _ {s : List ℕ} {at n count : ℕ} {lens highs lows : List ℕ} {k : ℕ
   step_limit g m = record { stops = λ o es ts c _ q r. step_many ts r g q m }
 
   -- read word by word
-  module _ {w : StepWords} (g : GotStep (step_line s at) w) (room : k < 1024) {x : ℕ} (f : Finds count lens highs lows w.«len» w.«high» w.«low» x) where
-    pub step_undeclared : Test w.source w.target n x count ≡ false → StepRefused s at n count lens highs lows k (C.Undeclared (3 + k))
+  module _ {w : StepLine} (g : GotStep (step_line s at) w) (room : k < 1024) where
+    pub step_unknown : Finds count lens highs lows w.name.«len» w.name.«high» w.name.«low» None → StepRefused s at n count lens highs lows k (C.Undeclared (3 + k))
     unfolding tabled
-    step_undeclared h = record { stops = λ o es ts c d q r. go o es ts c d q r (one_above w.source w.target n x count h) }
-      where
-        go : (o : Option ℕ) (es : List Name) (ts : List Named) (c : Checked Input) → DistinctRows es count lens highs lows → k ≡ length ts → Rest s (begun n o es ts) at c
-            → (n ≤ w.source) ⊎ ((count ≤ x) ⊎ (n ≤ w.target)) → c ≡ refused (tabled (C.Undeclared (3 + k)))
-        go o es ts c d q r (inl m) = step_source ts r g.read q room m
-        go o es ts c d q r (inr (inl m)) = step_event ts r g.read q room (omega (arith, number g f es d, d.rows.counted))
-        go o es ts c d q r (inr (inr m)) = step_target ts r g.read q room m
+    step_unknown f = record { stops = λ o es ts c d q r. step_event ts r g.read q room (omega (arith, number g f es d, d.rows.counted)) }
 
-    pub step_declared : Test w.source w.target n x count ≡ true → StepFound s at n count lens highs lows k w.source x w.target w.next
-    step_declared h =
-        let (i, j, m) = all_below_lem w.source w.target n x count h in
-        record { name = g.name; line = g.read; room = room; source = i; event = m; target = j; number = number g f }
+    pub step_stranger : (n ≤ w.source) ⊎ (n ≤ w.target) → StepRefused s at n count lens highs lows k (C.Undeclared (3 + k))
+    unfolding tabled
+    step_stranger (inl m) = record { stops = λ o es ts c d q r. step_source ts r g.read q room m }
+    step_stranger (inr m) = record { stops = λ o es ts c d q r. step_target ts r g.read q room m }
+
+    pub step_declared : {x : ℕ} → Finds count lens highs lows w.name.«len» w.name.«high» w.name.«low» (Some x) → w.source < n → w.target < n
+        → StepFound s at n count lens highs lows k w.source x w.target w.next
+    step_declared f i j = record { name = g.name; line = g.read; room = room; source = i; event = f.below; target = j; number = number g f }
 
   pub quick_limit : {a e b next : ℕ} → Declares count lens highs lows → ReadsStep s at n count lens highs lows a e b next → 1024 ≤ k
       → StepRefused s at n count lens highs lows k (C.LimitExceeded (3 + k))
@@ -143,32 +124,17 @@ module _ {s : List ℕ} {at n count : ℕ} {lens highs lows : List ℕ} {k : ℕ
             sym (event_number_lem es e (omega (arith, q.event, d.rows.counted)) t w (rw i at one));
       }
 
--- what is promised of an answer that has found the line
-pub step_found : {s : List ℕ} {at n count : ℕ} {lens highs lows : List ℕ} {k a e b next : ℕ} {r : StepAt} → r ≡ A.Found a e b next
-    → StepRead s at n count lens highs lows k r → StepFound s at n count lens highs lows k a e b next
-unfolding StepRead
-step_found q h = rw q at h
-
--- what the section promises, with the answer r
-abbrev Promised : List ℕ → ℕ → ℕ → ℕ → List ℕ → List ℕ → List ℕ → Section → TransitionRows → TransitionRows → Type 0
-Promised s at n count lens highs lows r before now = (count_of r ≤ 1024) × ReadsSteps s at n count lens highs lows r before now
-
 module _ {s : List ℕ} {at n count : ℕ} {lens highs lows : List ℕ} {before : TransitionRows} {k i : ℕ} {now : TransitionRows}
     (z : SoFar s at n count lens highs lows before k i now) where
   -- no step line stands next
-  pub section_end : step_line s i ≡ fail → Promised s at n count lens highs lows (Read k i) before now
-  unfolding count_of ReadsSteps StepsRead
-  section_end f = (
-    z.most,
-    λ o es c d r.
-        let t = z.so_far o es c d r in
-        record { steps = t.steps; rest = t.rest; last = f; counted = t.counted; rows = t.rows },
-  )
+  pub section_end : step_line s i ≡ fail → ReadsSteps s at n count lens highs lows (Ok (record { count = k; next = i })) before now
+  section_end f = λ o es c d r.
+      let t = z.so_far o es c d r in
+      record { steps = t.steps; rest = t.rest; last = f; counted = t.counted; rows = t.rows }
 
   -- the step line that stands next is refused
-  pub section_stop : {why : D.Refusal} → StepRefused s i n count lens highs lows k why → Promised s at n count lens highs lows (Refused why) before now
-  unfolding count_of ReadsSteps StepsRead
-  section_stop f = (omega arith, λ o es c d r. let t = z.so_far o es c d r in f.stops o es t.steps c d t.counted t.rest)
+  pub section_stop : {why : D.Refusal} → StepRefused s i n count lens highs lows k why → ReadsSteps s at n count lens highs lows (Err why) before now
+  section_stop f = λ o es c d r. let t = z.so_far o es c d r in f.stops o es t.steps c d t.counted t.rest
 
   -- it is declared, and its numbers are stored
   pub section_more : {a e b next p y q : ℕ} → StepFound s i n count lens highs lows k a e b next → p ≡ a → y ≡ e → q ≡ b
@@ -181,9 +147,3 @@ module _ {s : List ℕ} {at n count : ℕ} {lens highs lows : List ℕ} {before 
         so_far = λ o es c d r.
             steps_more (z.so_far o es c d r) g.line g.room g.source g.target source (event ∙ g.number es d) target (omega (arith, d.rows.counted, g.event));
       }
-
--- what is promised of a section that was read
-pub steps_found : {s : List ℕ} {n : ℕ} {o : Option ℕ} {es : List Name} {c : Checked Input} {k next : ℕ} {before after : TransitionRows} {r : Section} → r ≡ Read k next
-    → StepsRead s n o es c r before after → StepsFound s n o es c k next before after
-unfolding StepsRead
-steps_found q h = rw q at h

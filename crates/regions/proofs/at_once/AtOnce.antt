@@ -1,6 +1,7 @@
 -- All machines at once: no machine lists a state twice, each places every state, and each transition leads through it like the first of its event. Then
 -- every machine passes, and the moves are those of the first transitions.
-use Prim.Native.Nat.{ℕ, zero, suc, ◌*◌, ◌<◌, ◌≤◌}
+use Rattle.std.specs.Prelude.{Ok}
+use Prim.Native.Nat.{ℕ, zero, suc, ◌<◌, ◌≤◌}
 use native.Mathlib.Omega.{arith}
 use native.Mathlib.Numerals.{add-one}
 use mathlib.Core.Path.{◌≡◌, refl}
@@ -8,24 +9,20 @@ use mathlib.Core.List.{List}
 use Rattle.model.specs.Machine.{Machine}
 use Rattle.rows.specs.declared.Counts.{Counts}
 use Rattle.rows.specs.declared.Tables.{Tables}
-use Rattle.rows.specs.declared.Verdict.TheVariants.{Passed}
 use Rattle.rows.specs.Tables.{tables_in}
 use Rattle.rows.specs.Told.{entry, system_of}
 use Rattle.rows.specs.Bounded.{Bounded}
 use Rattle.regions.specs.Indexed.{Indexed, Chained}
-use Rattle.regions.specs.Crossings.{Scannable, Scanned, Leading, MovesPut}
+use Rattle.regions.specs.Crossings.{Scannable, Scanned, MovesPut}
 use Rattle.regions.specs.Columns.{Comparable, AlikeAtOnce}
 use Rattle.regions.specs.Regions.{rows_of, Answer}
 use Rattle.rows.specs.Sizes.{CheckedSizes}
 use Rattle.regions.proofs.chains.Links.{first_next}
-use Rattle.regions.proofs.in_turn.Marks.{unplaced_first}
+use Rattle.regions.proofs.in_turn.Marks.{covered}
 use Rattle.regions.proofs.in_turn.Scan.{Settled, answered}
 use Rattle.regions.proofs.in_turn.Checking.{Checking, check_start, check_more, check_end, Crossed}
 
 module _ (c : Counts) {source event target duplicate place first next : List ℕ} (b : Bounded (rows_of c source event target duplicate place)) (ch : Chained c.transitions c.events first next) where
-  pub leading : Leading first c.events
-  leading = record { size = ch.first_size; low = λ e l. omega (arith, ch.begins e l, b.transitions) }
-
   pub comparable : CheckedSizes source event target duplicate place → Comparable source target first next c.states c.events c.transitions
   comparable r =
       record {
@@ -59,7 +56,7 @@ module _ (c : Counts) (ats lens sizes : List ℕ) {source event target duplicate
   unfolding system_of
   scan m h mach s = answered first (system_of p) mach s (omega arith) (settled m h) (λ l. absurd (omega arith))
 
-  crossed : {k : ℕ} → Checking p k pre post → k < p.counts.machines → Crossed p k p.counts.states p.counts.events pre post pre post
+  crossed : {k : ℕ} → Checking p k pre post → k < p.counts.machines → Crossed p k p.counts.events pre post pre post
   crossed {k} c h =
       record {
         sought =
@@ -68,9 +65,8 @@ module _ (c : Counts) (ats lens sizes : List ℕ) {source event target duplicate
               here = h;
               bounded = b;
               single = single k h;
-              search = (unplaced_first p.place (k * 256) {n = p.counts.states} {x = p.counts.states} (record { most = omega arith; each = agree.placed k h }) (λ l. absurd (omega arith))).1;
+              search = covered p.place k p.counts.states (agree.placed k h);
             };
-        covered = omega arith;
         scan = scan k h;
         kept = record { rows = moves.rows; same = λ j e l x. refl };
       }
@@ -79,5 +75,5 @@ module _ (c : Counts) (ats lens sizes : List ℕ) {source event target duplicate
   pass zero l = check_start moves.rows
   pass (suc k) l = rw (add-one k) at (check_more (crossed (pass k (omega arith)) l) (omega arith))
 
-  pub all_pass : Answer p Passed pre post
+  pub all_pass : Answer p (Ok tt) pre post
   all_pass = check_end (pass p.counts.machines (omega arith)) (omega arith)

@@ -8,7 +8,7 @@ use mathlib.Core.List.{List}
 use lib.ListN.{length, set, replicate, length-set, length-replicate, get_or-replicate}
 use lib.Seq.{get_or-set_same, get_or-set_other}
 use Rattle.rows.specs.Told.{entry}
-use Rattle.regions.specs.Indexed.{next_in, next_of, Indexed}
+use Rattle.regions.specs.Indexed.{next_in, next_of}
 
 module _ (event : List ℕ) (n e k : ℕ) where
   next_end : n ≤ k → next_of event n e k ≡ k
@@ -66,6 +66,3 @@ index_more {event} {first} {next} {n} {k} {j} {e} {r} i q at low here =
     follow l h b (yes s) =
         rw (s, get_or-set_same next j (entry first e) 0 (omega (arith, i.room, i.most)), ← at, q) (i.starts e low)
     follow l h b (no s) = get_or-set_other next j l (entry first e) 0 s ∙ i.follows l (omega arith) b
-
-pub index_all : {event first next : List ℕ} {n : ℕ} → Indexing event n 0 first next → Indexed event n first next
-index_all i = record { first_size = i.first_size; room = i.room; starts = i.starts; follows = λ k h. i.follows k (omega arith) h }

@@ -4,10 +4,9 @@ use Prim.Native.Nat.{ℕ, suc, ◌<◌, ◌≤◌}
 use native.Mathlib.Omega.{arith}
 use mathlib.Core.Path.{◌≡◌, subst}
 use mathlib.Core.Logic.{◌⊎◌, inl, inr}
-use mathlib.Core.Bool.{Bool, true, false, not}
+use mathlib.Core.Bool.{Bool, true}
 use mathlib.Core.List.{List}
 use lib.Dec.{T}
-use borrow.Author.Tests.{not-false}
 use Rattle.model.proofs.Laws.{order}
 use Rattle.rows.specs.Told.{entry}
 use Rattle.regions.specs.Indexed.{Indexed}
@@ -43,8 +42,5 @@ module _ {first next : List ℕ} {n e : ℕ} {test : ℕ → Bool} where
           at (inr y) (inr z) = let s : j ≡ k = omega arith in rw s t
 
 -- what the code's test says
-pub T-passed : (r b : Bool) → r ≡ b → not r ≡ false → T b
-T-passed r b q f = rw (← q, not-false r f) tt
-
-pub T-failed : (r b : Bool) → r ≡ b → not r ≡ true → T (not b)
-T-failed r b q f = rw (← q, f) tt
+pub T-passed : (r b : Bool) → r ≡ b → r ≡ true → T b
+T-passed r b q f = rw (← q, f) tt

@@ -1,18 +1,18 @@
 -- The loop over the machines: 8, 9 and 10 of each in turn. What is asked of the whole is asked of the machines from k on, and the rows tell the moves on those
 -- before k.
-use Prim.Native.Nat.{ℕ, suc, ◌+◌, ◌*◌, ◌<◌, ◌≤◌}
+use Rattle.std.specs.Prelude.{Option, Some, None, Ok, Err}
+use Prim.Native.Nat.{ℕ, suc, ◌+◌, ◌<◌, ◌≤◌}
 use native.Mathlib.Omega.{arith}
 use native.Mathlib.Numerals.{add-one}
 use mathlib.Core.Path.{◌≡◌, refl, sym, ◌∙◌}
 use mathlib.Core.Logic.{◌⊎◌, inl, inr}
 use mathlib.Core.List.{List}
 use mathlib.Core.Option.{none, some, some-ne-none, or_else}
-use lib.Dec.{eqb}
 use lib.ListN.{drop, drop_of_length-le}
 use lib.Seq.{drop-cons}
 use Rattle.model.specs.declared.Refusal as D
 use Rattle.model.specs.declared.Refusal.TheVariants as C
-use Rattle.model.specs.Lists.{At, lowest}
+use Rattle.model.specs.Lists.{At}
 use Rattle.model.specs.Cases.{tabled}
 use Rattle.model.specs.TransitionSystem.{TransitionSystem}
 use Rattle.model.specs.Machine.{Machine, Decomposition, duplicate_state, unplaced_state, nonuniform_event, machine_refusal, machines_refusal}
@@ -20,15 +20,14 @@ use Rattle.model.specs.Machine as M
 use Rattle.model.proofs.Laws.{below_suc}
 use Rattle.model.proofs.Positions.{at_below, below_at, at_value}
 use Rattle.rows.specs.declared.Tables.{Tables}
-use Rattle.rows.specs.declared.Verdict.TheVariants.{Refused, Passed}
 use Rattle.rows.specs.Tables.{verdict_refusal}
-use Rattle.rows.specs.Told.{entry, below, system_of, MachineTold, MachinesTold}
+use Rattle.rows.specs.Told.{entry, system_of, MachineTold, MachinesTold}
 use Rattle.rows.specs.Bounded.{Bounded}
 use Rattle.rows.proofs.Searches.{below_in, below_out}
 use Rattle.regions.specs.Moves.{move_at, MoveRows}
 use Rattle.regions.specs.Crossings.{Scannable, Scanned, EarlierKept}
 use Rattle.regions.specs.Regions.{Answer}
-use Rattle.regions.proofs.in_turn.Marks.{twice_found, twice_none, unplaced_search, scannable}
+use Rattle.regions.proofs.in_turn.Marks.{Uncovered, twice_found, twice_none, unplaced_search, scannable}
 
 pub record Checking (p : Tables) (k : ℕ) (pre post : List ℕ) : Type 0 where
   pub most : k ≤ p.counts.machines
@@ -52,7 +51,7 @@ Every p k P = (m : Machine) → MachineTold (system_of p) p k m → P m
 
 module _ {p : Tables} {k : ℕ} {pre post : List ℕ} (c : Checking p k pre post) (here : k < p.counts.machines) where
   -- machine k is refused
-  stopped : (why : D.Refusal) → Every p k (λ m. machine_refusal (system_of p) k m ≡ some (tabled why)) → {pre2 post2 : List ℕ} → Answer p (Refused why) pre2 post2
+  stopped : (why : D.Refusal) → Every p k (λ m. machine_refusal (system_of p) k m ≡ some (tabled why)) → {pre2 post2 : List ℕ} → Answer p (Err why) pre2 post2
   unfolding verdict_refusal or_else
   stopped why h = (λ ms t. sym (c.rest ms t ∙ at ms t), λ ms t q. absurd (some-ne-none _ q))
     where
@@ -81,7 +80,7 @@ module _ {p : Tables} {k : ℕ} {pre post : List ℕ} (c : Checking p k pre post
           go (inl y) = kept.same j e y (omega (arith, b.events)) ∙ c.moves ms t j e m y a low
           go (inr y) = rw y ((h m (t.machine k m (rw y at a))).1 e low)
 
-pub check_end : {p : Tables} {k : ℕ} {pre post : List ℕ} → Checking p k pre post → p.counts.machines ≤ k → Answer p Passed pre post
+pub check_end : {p : Tables} {k : ℕ} {pre post : List ℕ} → Checking p k pre post → p.counts.machines ≤ k → Answer p (Ok tt) pre post
 unfolding verdict_refusal machines_refusal system_of
 check_end {k = k} c h = (
   λ ms t. sym (c.rest ms t ∙ rw (drop_of_length-le ms {i = k} (omega (arith, t.counted)))),
@@ -109,41 +108,38 @@ module _ (ts : TransitionSystem) (k : ℕ) (m : Machine) where
   clear d u e = rw (d, u, e)
 
 pub duplicate_stop : {p : Tables} {k : ℕ} {pre post pre2 post2 : List ℕ} → Checking p k pre post → k < p.counts.machines → ¬ (entry p.duplicate k ≡ 256)
-    → Answer p (Refused (C.DuplicateState k (entry p.duplicate k))) pre2 post2
+    → Answer p (Err (C.DuplicateState k (entry p.duplicate k))) pre2 post2
 duplicate_stop {p} {k} c here h = stopped c here _ (λ m t. refused_8 (system_of p) k m (entry p.duplicate k) (twice_found t h))
 
--- past 8, and the search for 9 has come to x
-pub record Sought (p : Tables) (k x : ℕ) (pre post : List ℕ) : Type 0 where
+-- past 8, and what the search for 9 has found
+pub record Sought (p : Tables) (k : ℕ) (r : Option ℕ) (pre post : List ℕ) : Type 0 where
   pub before : Checking p k pre post
   pub here : k < p.counts.machines
   pub bounded : Bounded p
   pub single : entry p.duplicate k ≡ 256
-  pub search : below p.counts.states x ≡ lowest (λ x. eqb (entry p.place (k * 256 + x)) 255) p.counts.states
+  pub search : Uncovered p.place k p.counts.states r
 
-pub uncovered_stop : {p : Tables} {k x : ℕ} {pre post pre2 post2 : List ℕ} → Sought p k x pre post → x < p.counts.states
-    → Answer p (Refused (C.UncoveredState k x)) pre2 post2
-uncovered_stop {p} {k} {x} s h =
-    stopped s.before s.here _
-    (λ m t. refused_9 (system_of p) k m x (twice_none t s.single) (sym (unplaced_search t s.bounded) ∙ sym s.search ∙ below_in p.counts.states x h))
+pub uncovered_stop : {p : Tables} {k x : ℕ} {pre post pre2 post2 : List ℕ} → Sought p k (Some x) pre post → Answer p (Err (C.UncoveredState k x)) pre2 post2
+uncovered_stop {p} {k} {x} s =
+    stopped s.before s.here _ (λ m t. refused_9 (system_of p) k m x (twice_none t s.single) (sym (unplaced_search t s.bounded) ∙ s.search))
 
 -- past 9, and the scan for 10 has come to e
-pub record Crossed (p : Tables) (k x e : ℕ) (pre post pre2 post2 : List ℕ) : Type 0 where
-  pub sought : Sought p k x pre post
-  pub covered : p.counts.states ≤ x
+pub record Crossed (p : Tables) (k e : ℕ) (pre post pre2 post2 : List ℕ) : Type 0 where
+  pub sought : Sought p k None pre post
   pub scan : (m : Machine) → Scannable (system_of p) m k p.source p.event p.target p.place p.counts.transitions → Scanned (system_of p) m k pre2 post2 e
   pub kept : EarlierKept k pre post pre2 post2
 
-module _ {p : Tables} {k x e : ℕ} {pre post pre2 post2 : List ℕ} (s : Crossed p k x e pre post pre2 post2) where
+module _ {p : Tables} {k e : ℕ} {pre post pre2 post2 : List ℕ} (s : Crossed p k e pre post pre2 post2) where
   once : Every p k (λ m. duplicate_state (system_of p) m ≡ none)
   once m t = twice_none t s.sought.single
 
   all : Every p k (λ m. unplaced_state (system_of p) m ≡ none)
-  all m t = sym (unplaced_search t s.sought.bounded) ∙ sym s.sought.search ∙ below_out p.counts.states x s.covered
+  all m t = sym (unplaced_search t s.sought.bounded) ∙ s.sought.search
 
   scanned : Every p k (λ m. Scanned (system_of p) m k pre2 post2 e)
   scanned m t = s.scan m (scannable t s.sought.bounded (once m t) (all m t) s.sought.here)
 
-  pub region_stop : {pre3 post3 : List ℕ} → e < p.counts.events → Answer p (Refused (C.NotARegion k e)) pre3 post3
+  pub region_stop : {pre3 post3 : List ℕ} → e < p.counts.events → Answer p (Err (C.NotARegion k e)) pre3 post3
   unfolding system_of
   region_stop h =
       stopped s.sought.before s.sought.here _

@@ -1,13 +1,13 @@
 -- What the scan of a machine has found so far. The code has no row of events, so what speaks of one holds for each that the chains are made from.
 use Prim.Native.Nat.{ℕ, ◌+◌, ◌*◌, ◌<◌, ◌≤◌}
 use native.Mathlib.Omega.{arith}
-use mathlib.Core.Path.{◌≡◌, refl, ap, ◌∙◌}
+use mathlib.Core.Path.{◌≡◌, ap, ◌∙◌}
 use mathlib.Core.Bool.{Bool, true, false, not}
 use mathlib.Core.List.{List}
 use lib.Dec.{T}
 use lib.ListN.{set, length-set}
 use lib.Seq.{get_or-set_same, get_or-set_other}
-use borrow.Author.Count.{below_none, below_more}
+use borrow.Author.Count.{below_more}
 use Rattle.model.specs.Lists.{every}
 use Rattle.model.specs.TransitionSystem.{TransitionSystem}
 use Rattle.model.specs.Machine.{Machine, uniform, nonuniform_event}
@@ -15,7 +15,7 @@ use Rattle.model.proofs.Laws.{not_T, contra}
 use Rattle.rows.specs.Told.{entry, transition_at}
 use Rattle.rows.proofs.Searches.{searched}
 use Rattle.regions.specs.declared.crossings.Crossing.{Crossing}
-use Rattle.regions.specs.Moves.{move_at, MoveRows}
+use Rattle.regions.specs.Moves.{move_at}
 use Rattle.regions.specs.Indexed.{Indexed, Chained}
 use Rattle.regions.specs.Crossings.{crossing_at, agreeing, pre_mark, Scannable, Scanned, EarlierKept}
 use Rattle.regions.proofs.crossings.Alike.{Level, level_uniform}
@@ -29,7 +29,7 @@ Walked source target place first next n m e one k = Walk first next n e (λ j. a
 
 pub walked_next :
     (source target place : List ℕ) {first next : List ℕ} {n : ℕ} (m : ℕ) {e : ℕ} (one : Crossing) {k : ℕ} (k2 : ℕ) (other : Crossing) (r : Bool) → k < n → k2 ≡ entry next k
-    → other ≡ crossing_at source target place m k → r ≡ agreeing one other → not r ≡ false
+    → other ≡ crossing_at source target place m k → r ≡ agreeing one other → r ≡ true
     → Walked source target place first next n m e one k → Walked source target place first next n m e one k2
 walked_next source target place m one k2 other r l q oq rq f w = walk_next k2 l q (T-passed r _ (rq ∙ ap (agreeing one) oq) f) w
 
@@ -52,9 +52,6 @@ kept_put m pre₀ post₀ pre post e x y lm k = record {
 }
 
 module _ {source target place first next : List ℕ} {n m : ℕ} where
-  pub sofar_start : {pre post : List ℕ} → MoveRows pre post → Sofar source target place first next n m pre post pre post 0
-  sofar_start r = record { kept = record { rows = r; same = λ j e l b. refl }; alike = below_none _; pres = below_none _; posts = below_none _ }
-
   pub sofar_next :
       {pre₀ post₀ pre post : List ℕ} {e : ℕ} (one : Crossing) (k x : ℕ) → one ≡ crossing_at source target place m (entry first e) → x ≡ pre_mark one → m < 16 → e < 64 → n ≤ k
       → Walked source target place first next n m e one k → Sofar source target place first next n m pre₀ post₀ pre post e
@@ -102,12 +99,13 @@ module _ {source target place first next : List ℕ} {n m events : ℕ} {pre₀ 
   settled : (d : ℕ) → d < e → Settled source event target place n m pre post d (entry first d)
   settled d l = record { low = ch.begins d (omega arith); label = begins d (omega arith); alike = so.alike d l event i; pre_mark_lem = so.pres d l; post_place = so.posts d l }
 
-  pub scanned_all : events ≤ e → Scanned ts mach m pre post e
-  scanned_all l = answered first ts mach s (omega arith) settled (λ b. absurd (omega arith))
+  pub scanned_all : events ≤ e → Scanned ts mach m pre post events
+  scanned_all l =
+      let z : e ≡ events = omega arith in rw z at (answered first ts mach s (omega arith) settled (λ b. absurd (omega arith)))
 
   pub scanned_uneven :
       (one other : Crossing) (r : Bool) (k : ℕ) → e < events → k < n → one ≡ crossing_at source target place m (entry first e) → other ≡ crossing_at source target place m k
-      → r ≡ agreeing one other → not r ≡ true → Walked source target place first next n m e one k → Scanned ts mach m pre post e
+      → r ≡ agreeing one other → r ≡ false → Walked source target place first next n m e one k → Scanned ts mach m pre post e
   scanned_uneven one other r k l lk p oq rq f w =
       answered first ts mach s (omega arith) settled
       (λ _. rows_uneven ts mach m source event target place n s e (entry first e) k (ch.begins e l) lk (begins e l) (w.stands event i lk) (rw (← p, ← oq, ← rq, f) tt))

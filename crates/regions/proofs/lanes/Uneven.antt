@@ -1,15 +1,15 @@
 -- The scan for 10 over all machines at once: the events before e are even, and of event e the transitions before k lead like its first.
 use Prim.Native.Nat.{ℕ, ◌+◌, ◌*◌, ◌<◌, ◌≤◌}
 use native.Mathlib.Omega.{arith}
-use borrow.Author.Count.{below_none, below_more}
+use borrow.Author.Count.{below_more}
 use mathlib.Core.Path.{◌≡◌}
-use mathlib.Core.Bool.{Bool, true, false, not}
+use mathlib.Core.Bool.{Bool, true}
 use mathlib.Core.List.{List}
 use lib.Dec.{T}
 use Rattle.rows.specs.Told.{entry}
 use Rattle.regions.specs.Indexed.{Indexed}
-use Rattle.regions.specs.Columns.{lanes_agree, alike_at, FirstUneven}
-use Rattle.regions.proofs.chains.Walks.{Walk, walk_start, walk_next, T-passed, T-failed}
+use Rattle.regions.specs.Columns.{lanes_agree, alike_at}
+use Rattle.regions.proofs.chains.Walks.{Walk, walk_start, walk_next, T-passed}
 use Rattle.regions.proofs.lanes.Lanes.{lanes_self}
 
 pub record Even (source target first next columns : List ℕ) (events n e : ℕ) : Type 0 where
@@ -39,7 +39,7 @@ module _ {source target first next columns : List ℕ} {n e : ℕ} where
     compare_read s2 t2 a b q = rw (← a, ← b, ← v.source_column, ← v.target_column) q
 
     pub compare_next : (s2 t2 k2 : ℕ) (r : Bool) → k < n → s2 ≡ entry source k → t2 ≡ entry target k → r ≡ lanes_agree columns from to (s2 * 16) (t2 * 16) 16
-        → not r ≡ false → k2 ≡ entry next k → Comparing source target first next columns n e from to k2
+        → r ≡ true → k2 ≡ entry next k → Comparing source target first next columns n e from to k2
     compare_next s2 t2 k2 r l a b q f w =
         record {
           source_column = v.source_column;
@@ -48,23 +48,7 @@ module _ {source target first next columns : List ℕ} {n e : ℕ} where
         }
 
 module _ {source target first next columns : List ℕ} {events n : ℕ} where
-  pub even_start : Even source target first next columns events n 0
-  even_start = record { most = omega arith; even = λ event i. below_none _ }
-
   module _ {e k : ℕ} (so : Even source target first next columns events n e) {from to : ℕ} (v : Comparing source target first next columns n e from to k) (l : e < events) where
     -- past the last transition of the event
     pub even_more : n ≤ k → Even source target first next columns events n (e + 1)
     even_more b = record { most = omega arith; even = λ event i. below_more _ e (so.even event i) (λ j h q. v.walk.passed event i j (omega arith) h q) }
-
-    -- at a transition that leads otherwise
-    pub even_stop : (s2 t2 : ℕ) (r : Bool) → k < n → s2 ≡ entry source k → t2 ≡ entry target k → r ≡ lanes_agree columns from to (s2 * 16) (t2 * 16) 16 → not r ≡ true
-        → FirstUneven source target first next columns events n e
-    even_stop s2 t2 r b p q h f =
-        record {
-          most = so.most;
-          even = so.even;
-          uneven = λ event i _. (k, b, v.walk.stands event i b, T-failed r _ (compare_read v s2 t2 p q h) f);
-        }
-
-  pub even_all : {e : ℕ} → Even source target first next columns events n e → events ≤ e → FirstUneven source target first next columns events n e
-  even_all so b = record { most = so.most; even = so.even; uneven = λ event i h. absurd (omega arith) }

@@ -1,6 +1,5 @@
 -- `sheet::event_len` meets its contract: the moves on the machines passed are counted. The laws are in `Lengths`.
-use native.Mathlib.Omega.{arith}
-use mathlib.Core.Path.{refl, sym, ◌∙◌}
+use mathlib.Core.Path.{sym, ◌∙◌}
 use Rattle.sheet.proofs.Lengths.{counted_none, counted_add, counted_skip, counted_end}
 use Rattle.sheet.proofs.event_len.Goals as goal
 use Rattle.sheet.proofs.event_len.Goals.{then-has_move, else-has_move}
@@ -16,23 +15,11 @@ loop-m-preserved c =
     let a = c.place_len.ensures in
     let b = c.place_len-in-loop-m.ensures in
     elim c.if-has_move.branch [
-      | then-has_move w ↦ rw (w.moves-is, w.figures-is) (counted_add inv l (on ∙ w.if-has_move.true) a.0 b.0 a.1 b.1)
-      | else-has_move w ↦ rw (w.moves-is, w.figures-is) (counted_skip inv l (on ∙ w.if-has_move.false))
+      | then-has_move w ↦ rw (w.count-is, w.figures-is) (counted_add inv l (on ∙ w.if-has_move.true) a.0 b.0 a.1 b.1)
+      | else-has_move w ↦ rw (w.count-is, w.figures-is) (counted_skip inv l (on ∙ w.if-has_move.false))
     ]
-
-pub overflow_mul-result : goal.overflow_mul-result
-overflow_mul-result c =
-    let p = c.requires in
-    let e = counted_end c.loop-m.invariant c.loop-m-test.false p.2 p.0 c.wide.ensures.0 refl in
-    omega (arith, e.1)
-
-pub overflow_add-result-2 : goal.overflow_add-result-2
-overflow_add-result-2 c =
-    let p = c.requires in
-    let e = counted_end c.loop-m.invariant c.loop-m-test.false p.2 p.0 c.wide.ensures.0 c.wide-2.ensures.0 in
-    omega (arith, e.1)
 
 pub returns : goal.returns
 returns c =
     let p = c.requires in
-    counted_end c.loop-m.invariant c.loop-m-test.false p.2 p.0 c.wide.ensures.0 c.wide-2.ensures.0
+    counted_end c.loop-m.invariant c.loop-m-test.false p.2 p.0 c.from.ensures c.from-2.ensures

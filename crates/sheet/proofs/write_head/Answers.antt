@@ -34,7 +34,7 @@ write_bytes-e-requires c =
 pub write_figure-f-requires : goal.write_figure-f-requires
 write_figure-f-requires c =
     let a = c.args in
-    (omega arith, omega (arith, length_head a.m a.size a.start, length_same c.wide.ensures.0))
+    (omega arith, omega (arith, length_head a.m a.size a.start, length_same c.from.ensures))
 
 pub write_bytes-requires : goal.write_bytes-requires
 write_bytes-requires c =
@@ -44,7 +44,7 @@ write_bytes-requires c =
       c.requires.2,
       length_head a.m a.size
           a.start,
-      length_same c.wide.ensures.0,
+      length_same c.from.ensures,
     )
 
 pub returns : goal.returns
@@ -55,4 +55,4 @@ returns c =
     (writes_append c.write_bytes-c.ensures
     (writes_append c.write_figure-d.ensures
     (writes_append c.write_bytes-e.ensures
-    (writes_append (writes_same c.wide.ensures.0 c.write_figure-f.ensures) c.write_bytes.ensures)))))
+    (writes_append (writes_same c.from.ensures c.write_figure-f.ensures) c.write_bytes.ensures)))))

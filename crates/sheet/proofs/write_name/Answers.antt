@@ -3,8 +3,8 @@ use native.Mathlib.Omega.{arith}
 use Rattle.sheet.proofs.Within.{name_alone, name_further}
 use Rattle.sheet.proofs.write_name.Goals as goal
 
-pub returns-then-least-lt-LONGEST_NAME : goal.returns-then-least-lt-LONGEST_NAME
-returns-then-least-lt-LONGEST_NAME c =
+pub returns-then-min-lt-LONGEST_NAME : goal.returns-then-min-lt-LONGEST_NAME
+returns-then-min-lt-LONGEST_NAME c =
     name_alone _ _ _ c.requires.3 c.requires.1 c.requires.2 c.write_bytes.ensures
 
 pub returns : goal.returns

@@ -14,12 +14,12 @@ write_bytes-a-requires c =
 pub write_figure-b-requires : goal.write_figure-b-requires
 write_figure-b-requires c =
     let a = c.args in
-    (omega arith, omega (arith, length_places a.pre a.post, length_same c.wide.ensures.0))
+    (omega arith, omega (arith, length_places a.pre a.post, length_same c.from.ensures))
 
 pub write_bytes-c-requires : goal.write_bytes-c-requires
 write_bytes-c-requires c =
     let a = c.args in
-    omega (arith, length_places a.pre a.post, length_same c.wide.ensures.0)
+    omega (arith, length_places a.pre a.post, length_same c.from.ensures)
 
 pub write_figure-d-requires : goal.write_figure-d-requires
 write_figure-d-requires c =
@@ -28,8 +28,8 @@ write_figure-d-requires c =
       omega (
         arith,
         length_places a.pre a.post,
-        length_same c.wide.ensures.0,
-        length_same c.wide-2.ensures.0,
+        length_same c.from.ensures,
+        length_same c.from-2.ensures,
       ),
     )
 
@@ -39,14 +39,14 @@ write_bytes-requires c =
     omega (
       arith,
       length_places a.pre a.post,
-      length_same c.wide.ensures.0,
-      length_same c.wide-2.ensures.0,
+      length_same c.from.ensures,
+      length_same c.from-2.ensures,
     )
 
 pub returns : goal.returns
 unfolding places_bytes
 returns c =
     writes_append c.write_bytes-a.ensures
-    (writes_append (writes_same c.wide.ensures.0 c.write_figure-b.ensures)
+    (writes_append (writes_same c.from.ensures c.write_figure-b.ensures)
     (writes_append c.write_bytes-c.ensures
-    (writes_append (writes_same c.wide-2.ensures.0 c.write_figure-d.ensures) c.write_bytes.ensures)))
+    (writes_append (writes_same c.from-2.ensures c.write_figure-d.ensures) c.write_bytes.ensures)))

@@ -16,7 +16,7 @@ use Rattle.sheet.proofs.write_sheet.Goals as goal
 
 -- the rows that the function was given
 abbrev rows : Start → Tables
-rows g = let a = g.args in sheet_rows a.c a.ats.now a.lens.now a.sizes.now a.place.now
+rows g = let a = g.args in sheet_rows a.plan.now.counts a.plan.now.name_at a.plan.now.name_len a.plan.now.sizes a.plan.now.place
 
 -- what it was given, as the loop begins
 abbrev given : (c : After-write_bytes-i) → Start
@@ -24,7 +24,7 @@ given c = (goal.at.After-write_bytes-i c).Start
 
 -- the first line
 titled : (c : After-write_bytes-i)
-    → Writes (written_count (given c).args.c.machines) 0 (given c).args.out.now c.write_bytes-i.result c.write_bytes-i.new.out
+    → Writes (written_count (given c).args.plan.now.counts.machines) 0 (given c).args.out.now c.write_bytes-i.result c.write_bytes-i.new.out
 unfolding written_count
 titled c = writes_append c.write_bytes-a.ensures (writes_append c.write_figure-b.ensures c.write_bytes-i.ensures)
 
@@ -33,35 +33,30 @@ room : (c : In-loop-m)
     → let g = given (goal.at.In-loop-m c).After-write_bytes-i in
     let m = c.loop-m.m in
     Room c.loop-m.i g.args.size c.loop-m.out (head_of (rows g) m)
-    (moves_of g.args.text.now (rows g) g.args.pre.now g.args.post.now m) (bytes ")\n")
+    (moves_of g.args.text.now (rows g) g.args.moves.now.pre g.args.moves.now.post m) (bytes ")\n")
 room c =
     line_room _ (rows (given (goal.at.In-loop-m c).After-write_bytes-i)) _ _ (given (goal.at.In-loop-m c).After-write_bytes-i).requires.size_value.0 (given (goal.at.In-loop-m c).After-write_bytes-i).requires.size_value.1 (titled (goal.at.In-loop-m c).After-write_bytes-i) c.loop-m.invariant c.loop-m-test.true
 
 pub write_bytes-a-requires : goal.write_bytes-a-requires
 write_bytes-a-requires c =
-    let w = title_within c.args.text.now (rows (goal.at.write_bytes-a-requires c).Start) c.args.pre.now c.args.post.now in
+    let w = title_within c.args.text.now (rows (goal.at.write_bytes-a-requires c).Start) c.args.moves.now.pre c.args.moves.now.post in
     omega (arith, c.requires.size_value.0, c.requires.size_value.1)
 
 pub write_figure-b-requires : goal.write_figure-b-requires
 write_figure-b-requires c =
-    let w = title_within c.args.text.now (rows (goal.at.write_figure-b-requires c).Start) c.args.pre.now c.args.post.now in
+    let w = title_within c.args.text.now (rows (goal.at.write_figure-b-requires c).Start) c.args.moves.now.pre c.args.moves.now.post in
     let a = c.write_bytes-a.ensures in
     (omega (arith, c.requires.sheet_ready.0.machines), omega (arith, c.requires.size_value.0, c.requires.size_value.1, a.after, writes_length a))
 
 pub write_bytes-i-requires : goal.write_bytes-i-requires
 write_bytes-i-requires c =
-    let w = title_within c.args.text.now (rows (goal.at.write_bytes-i-requires c).Start) c.args.pre.now c.args.post.now in
+    let w = title_within c.args.text.now (rows (goal.at.write_bytes-i-requires c).Start) c.args.moves.now.pre c.args.moves.now.post in
     let a = c.write_bytes-a.ensures in
     let b = c.write_figure-b.ensures in
     omega (arith, c.requires.size_value.0, c.requires.size_value.1, a.after, writes_length a, b.after, writes_length b)
 
 pub loop-m-init : goal.loop-m-init
 loop-m-init c = lined_none
-
-pub bounds-sizes-m : goal.bounds-sizes-m
-bounds-sizes-m c =
-    let b = c.requires.sheet_ready.0 in
-    omega (arith, c.loop-m-test.true, b.machines, b.sizes_size)
 
 pub write_head-head-requires : goal.write_head-head-requires
 write_head-head-requires c =
@@ -74,31 +69,20 @@ write_head-head-requires c =
       room_first (room (goal.at.write_head-head-requires c).In-loop-m),
     )
 
-pub write_moves-moves-requires : goal.write_moves-moves-requires
-write_moves-moves-requires c =
+pub write_moves-end-requires : goal.write_moves-end-requires
+write_moves-end-requires c =
     let p = c.requires.sheet_ready in
-    record { m_bound = (omega (arith, c.loop-m-test.true, p.0.machines), p.0.events, p.1, p.0.lens_size, p.2); by_index = (p.0.names, p.3); events_bound = room_second (room (goal.at.write_moves-moves-requires c).In-loop-m) c.write_head-head.ensures }
+    record { m_bound = (omega (arith, c.loop-m-test.true, p.0.machines), p.0); inside = p.3; events_bound = room_second (room (goal.at.write_moves-end-requires c).In-loop-m) c.write_head-head.ensures }
 
 pub write_bytes-i-requires-in-loop-m : goal.write_bytes-i-requires-in-loop-m
 write_bytes-i-requires-in-loop-m c =
-    room_third (room (goal.at.write_bytes-i-requires-in-loop-m c).In-loop-m) c.write_head-head.ensures c.write_moves-moves.ensures
-
-pub overflow_add-m : goal.overflow_add-m
-overflow_add-m c =
-    omega (
-      arith,
-      c.loop-m-test.true,
-      c.requires.sheet_ready.0.machines,
-    )
+    room_third (room (goal.at.write_bytes-i-requires-in-loop-m c).In-loop-m) c.write_head-head.ensures c.write_moves-end.ensures
 
 pub loop-m-preserved : goal.loop-m-preserved
 loop-m-preserved c =
     lined_add c.loop-m.invariant
     c.loop-m-test.true
-    (all_three (room (goal.at.loop-m-preserved c).In-loop-m) c.write_head-head.ensures c.write_moves-moves.ensures c.write_bytes-i-in-loop-m.ensures)
-
-pub shape_of-out : goal.shape_of-out
-shape_of-out c = c.loop-m.invariant.written.same_length ∙ writes_length (titled (goal.at.shape_of-out c).After-write_bytes-i)
+    (all_three (room (goal.at.loop-m-preserved c).In-loop-m) c.write_head-head.ensures c.write_moves-end.ensures c.write_bytes-i-in-loop-m.ensures)
 
 pub returns : goal.returns
 returns c =
@@ -106,4 +90,4 @@ returns c =
     let a = (given (goal.at.returns c).After-write_bytes-i).args in
     lined_end _ (rows (given (goal.at.returns c).After-write_bytes-i)) _ _ (given (goal.at.returns c).After-write_bytes-i).requires.size_value.0 (given (goal.at.returns c).After-write_bytes-i).requires.size_value.1 (titled (goal.at.returns c).After-write_bytes-i) c.loop-m.invariant c.loop-m-test.false
     ∙ ap (sets a.out.now 0)
-    (sheet_same a.text.now a.c a.ats.now a.lens.now a.sizes.now a.place.now a.pre.now a.post.now sources events targets duplicates)
+    (sheet_same a.text.now a.plan.now.counts a.plan.now.name_at a.plan.now.name_len a.plan.now.sizes a.plan.now.place a.moves.now.pre a.moves.now.post sources events targets duplicates)

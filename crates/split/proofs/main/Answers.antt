@@ -3,4 +3,4 @@ use Rattle.split.proofs.Gathering.{gathered_ended}
 use Rattle.split.proofs.main.Goals as goal
 
 pub respond-requires : goal.respond-requires
-respond-requires c = gathered_ended c.gather-gathered.ensures c.in-Words.is
+respond-requires c = gathered_ended c.gather.ensures c.in-Some.is

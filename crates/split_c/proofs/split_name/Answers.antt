@@ -2,8 +2,8 @@
 use Rattle.split_c.proofs.Flattening.{name_refused, name_passed}
 use Rattle.split_c.proofs.split_name.Goals as goal
 
-pub returns-in-Refused : goal.returns-in-Refused
-returns-in-Refused c = name_refused c.name_part-part.ensures _ c.in-Refused.is c.numbers-n.ensures
+pub returns-in-Ok : goal.returns-in-Ok
+returns-in-Ok c = name_passed c.in-Ok.ensures
 
-pub returns-in-Passed : goal.returns-in-Passed
-returns-in-Passed c = name_passed c.name_part-part.ensures c.in-Passed.is
+pub returns-in-Err : goal.returns-in-Err
+returns-in-Err c = name_refused _ c.in-Err.ensures c.from-n.ensures

@@ -2,8 +2,8 @@
 use Rattle.split_c.proofs.Flattening.{set_refused, set_kept}
 use Rattle.split_c.proofs.split_thin.Goals as goal
 
-pub returns-in-Refused : goal.returns-in-Refused
-returns-in-Refused c = set_refused c.thin.ensures _ c.in-Refused.is c.numbers-n.ensures
+pub returns-in-Ok : goal.returns-in-Ok
+returns-in-Ok c = set_kept _ _ c.in-Ok.ensures c.from.ensures
 
-pub returns-in-Kept : goal.returns-in-Kept
-returns-in-Kept c = set_kept c.thin.ensures c.in-Kept.is
+pub returns-in-Err : goal.returns-in-Err
+returns-in-Err c = set_refused _ _ c.in-Err.ensures c.from-n.ensures

@@ -7,4 +7,4 @@ use Rattle.state_set.proofs.contains_at.Goals as goal
 
 pub returns : goal.returns
 unfolding bit
-returns c = sym (digit_at _ _ _ (search rules))
+returns c = rw c.from.ensures (sym (digit_at _ _ _ (search rules)))

@@ -4,4 +4,4 @@ use Rattle.state_set.proofs.Rows.{inserted}
 use Rattle.state_set.proofs.insert.Goals as goal
 
 pub returns : goal.returns
-returns c = inserted _ _ _ (search rules) c.requires
+returns c = rw c.from.ensures (inserted _ _ _ (search rules) c.requires)

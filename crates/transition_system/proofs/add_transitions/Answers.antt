@@ -1,24 +1,22 @@
--- `transition_system::add_transitions` meets its contract. The laws are in `Scanning`.
-use mathlib.Core.Path.{refl}
+-- The laws are in `Scanning`.
 use borrow.Author.Rules.{rules}
-use Rattle.transition_system.proofs.Scanning.{scan_start, scan_end, in_rows, scan_stop, scan_more}
+use Rattle.std.proofs.lemmas.Result.{err_from_is_err_and}
+use Rattle.transition_system.proofs.Scanning.{scan_start, scan_end, scan_stop, scan_more}
 use Rattle.transition_system.proofs.add_transitions.Goals as goal
 
 pub loop-k-init : goal.loop-k-init
 loop-k-init c = scan_start c.requires.sets_of
 
-pub add_transition-verdict-requires : goal.add_transition-verdict-requires
-add_transition-verdict-requires c = record { in_rows = in_rows c.loop-k.invariant refl (c.requires.by_index _ c.loop-k-test.true); sets_of = c.loop-k.invariant.sets }
-
-pub returns-in-Refused : goal.returns-in-Refused
-returns-in-Refused c =
-    let all = scan_stop c.loop-k.invariant c.loop-k-test.true c.in-Refused.is c.add_transition-verdict.ensures.result_value in
-    record { result_value = all.0; sets_of_2 = all.1 }
+pub returns-in_err-add_transition : goal.returns-in_err-add_transition
+returns-in_err-add_transition c =
+    let (why, e, same) = err_from_is_err_and c.from_residual.result c.from_residual.ensures.1 in
+    let all = scan_stop c.loop-k.invariant c.loop-k-test.true c.in_err-add_transition.was c.add_transition.ensures.result_value in
+    record { result_value = rw (e, same) all.0; sets_of_2 = rw (e, same) all.1 }
 
 pub loop-k-preserved : goal.loop-k-preserved
 loop-k-preserved c =
-    scan_more c.loop-k.invariant c.loop-k-test.true c.in_default.is c.add_transition-verdict.ensures.result_value
-    c.add_transition-verdict.ensures.sets_of_2 (search rules)
+    scan_more c.loop-k.invariant c.loop-k-test.true c.in_ok-add_transition.was c.add_transition.ensures.result_value
+    c.add_transition.ensures.sets_of_2 (search rules)
 
 pub returns : goal.returns
 returns c =

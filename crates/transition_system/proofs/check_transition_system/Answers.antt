@@ -4,13 +4,7 @@ use Rattle.transition_system.proofs.Verdicts.{no_successors}
 use Rattle.transition_system.proofs.check_transition_system.Goals as goal
 
 pub check_with-requires : goal.check_with-requires
-check_with-requires c = record { bounded = c.requires.bounded; transitions_in_bounds = c.requires.transitions_in_bounds; successors = (no_successors 64, omega arith) }
+check_with-requires c = record { bounded = c.requires; successors = (no_successors 64, omega arith) }
 
-pub check_with-requires-else-c-le-FEW_STATES : goal.check_with-requires-else-c-le-FEW_STATES
-check_with-requires-else-c-le-FEW_STATES c = record { bounded = c.requires.bounded; transitions_in_bounds = c.requires.transitions_in_bounds; successors = (no_successors 1024, omega (arith, c.requires.bounded.0.states)) }
-
-pub returns-then-c-le-FEW_STATES : goal.returns-then-c-le-FEW_STATES
-returns-then-c-le-FEW_STATES c = record { result_value = c.check_with.ensures.result_value; excitations = c.check_with.ensures.excitations }
-
-pub returns-else-c-le-FEW_STATES : goal.returns-else-c-le-FEW_STATES
-returns-else-c-le-FEW_STATES c = record { result_value = c.check_with-else-c-le-FEW_STATES.ensures.result_value; excitations = c.check_with-else-c-le-FEW_STATES.ensures.excitations }
+pub check_with-requires-else-plan-le-FEW_STATES : goal.check_with-requires-else-plan-le-FEW_STATES
+check_with-requires-else-plan-le-FEW_STATES c = record { bounded = c.requires; successors = (no_successors 1024, omega (arith, c.requires.0.states)) }

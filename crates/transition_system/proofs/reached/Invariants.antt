@@ -2,8 +2,8 @@
 use Rattle.transition_system.proofs.Worklist.{remaining, Search}
 use Rattle.transition_system.proofs.reached.Given as goal
 
-abbrev pub invariant-loop-found : goal.invariant-loop-found
-invariant-loop-found l = Search l.successors l.initial' l.found l.waiting
+abbrev pub invariant-loop-waiting : goal.invariant-loop-waiting
+invariant-loop-waiting l = Search l.successors l.initial' l.found l.waiting
 
-abbrev pub decreases-loop-found : goal.decreases-loop-found
-decreases-loop-found l = remaining l.found l.waiting
+abbrev pub decreases-loop-waiting : goal.decreases-loop-waiting
+decreases-loop-waiting l = remaining l.found l.waiting

@@ -6,7 +6,7 @@ use native.Mathlib.Omega.{arith}
 use Rattle.model.specs.TransitionSystem.{TransitionSystem, and_then, unreachable_state}
 use Rattle.model.proofs.Bounds.{Within}
 use Rattle.rows.specs.Told.{below}
-use Rattle.rows.proofs.Searches.{below_out}
+use Rattle.rows.proofs.Searches.{below_in, below_out}
 use Rattle.state_set.specs.Member.{state_found}
 use Rattle.transition_system.specs.Sets.{Successors}
 use Rattle.transition_system.proofs.Unreached.{unreached_by}
@@ -22,18 +22,19 @@ outside c e ts w p i q =
     unreached_by _ c.requires.2 c.without.ensures (sym e ∙ c.lowest.ensures) ts w p
     (c.reached.ensures ts i q)
 
-pub returns-in-Nothing : goal.returns-in-Nothing
+pub returns-in_err-lowest_outside : goal.returns-in_err-lowest_outside
 unfolding state_found and_then
-returns-in-Nothing c ts w p i q = below_out _ _ (omega arith) ∙ outside (goal.at.returns-in-Nothing c).After-lowest (ap state_found c.in-Nothing.is) ts w p i q
+returns-in_err-lowest_outside c ts w p i q =
+    rw c.from_residual.ensures (outside (goal.at.returns-in_err-lowest_outside c).After-lowest (ap state_found c.in_err-lowest_outside.was) ts w p i q)
 
-pub returns-then-k-n : goal.returns-then-k-n
+pub returns-then-s-n : goal.returns-then-s-n
 unfolding state_found and_then
-returns-then-k-n c ts w p i q =
-    ap (below _) c.wide-k.ensures.0
-    ∙ outside (goal.at.returns-then-k-n c).After-lowest (ap state_found c.in-State.is) ts w p i q
+returns-then-s-n c ts w p i q =
+    rw c.from-s.ensures (sym (below_in _ _ (omega arith)))
+    ∙ outside (goal.at.returns-then-s-n c).After-lowest (ap state_found c.in_ok-lowest_outside.was) ts w p i q
 
-pub returns-else-k-n : goal.returns-else-k-n
+pub returns-else-s-n : goal.returns-else-s-n
 unfolding state_found and_then
-returns-else-k-n c ts w p i q =
-    below_out _ _ (omega arith) ∙ sym (below_out _ _ (omega arith))
-    ∙ outside (goal.at.returns-else-k-n c).After-lowest (ap state_found c.in-State.is) ts w p i q
+returns-else-s-n c ts w p i q =
+    sym (below_out _ _ (omega arith))
+    ∙ outside (goal.at.returns-else-s-n c).After-lowest (ap state_found c.in_ok-lowest_outside.was) ts w p i q

@@ -1,20 +1,19 @@
--- `transition_system::unused_event` meets its contract: the events passed are excited. The laws are in `Unused`.
+-- The events passed are excited. The laws are in `Unused`.
 use native.Mathlib.Omega.{arith}
-use Rattle.rows.proofs.Searches.{upto_start, upto_more}
-use Rattle.transition_system.proofs.Unused.{nothing_idle, state_excites, unused_found}
+use borrow.Author.Count.{below_more}
+use Rattle.state_set.specs.Member.{state_found}
+use Rattle.transition_system.proofs.Unused.{nothing_idle, state_excites, unused_found, all_used}
 use Rattle.transition_system.proofs.unused_event.Goals as goal
 
-pub loop-e-init : goal.loop-e-init
-loop-e-init c = upto_start
-
-pub returns-in-Nothing : goal.returns-in-Nothing
-returns-in-Nothing c =
-    unused_found c.requires.1 c.loop-e.invariant (λ _. nothing_idle _ _ c.load.ensures c.lowest.ensures c.in-Nothing.is)
+pub returns-then-is_none : goal.returns-then-is_none
+unfolding state_found
+returns-then-is_none c ts w b q x =
+    unused_found c.requires ts w b q x (omega arith) c.loop-e.invariant (nothing_idle _ _ c.lowest.result c.load.ensures c.lowest.ensures c.if-is_none.ensures)
 
 pub loop-e-preserved : goal.loop-e-preserved
 loop-e-preserved c =
-    upto_more c.loop-e.invariant c.loop-e-test.true
-    (state_excites _ _ c.load.ensures c.lowest.ensures c.in_default.is)
+    below_more _ _ c.loop-e.invariant (state_excites _ _ c.lowest.result c.load.ensures c.lowest.ensures c.if-is_none.ensures)
 
 pub returns : goal.returns
-returns c = unused_found c.requires.1 c.loop-e.invariant (λ l. absurd (omega arith))
+unfolding state_found
+returns c ts w b q x = all_used c.requires ts w b q x (λ j l. c.loop-e.invariant j (omega arith))

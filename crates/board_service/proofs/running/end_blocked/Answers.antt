@@ -2,8 +2,8 @@
 use Rattle.board_service.proofs.Going.{blocked_odd, blocked_fine}
 use Rattle.board_service.proofs.running.end_blocked.Goals as goal
 
-pub returns-in-At : goal.returns-in-At
-returns-in-At c = blocked_odd c.odd_name.ensures c.in-At.is c.refused.ensures
+pub returns-in-Some : goal.returns-in-Some
+returns-in-Some c = blocked_odd c.odd_name.ensures c.in-Some.is c.refused.ensures
 
 pub returns : goal.returns
 returns c = blocked_fine c.odd_name.ensures c.in_default.is

@@ -12,9 +12,9 @@ use Rattle.lines.proofs.marks.mark_states.Given as goal
 abbrev pub end : ℕ → ℕ → Marking → List ℕ × ℕ → Marking × ℕ
 end n p m r = (marked_all n p m r.0, r.1)
 
-abbrev pub invariant-loop-value : goal.invariant-loop-value
-invariant-loop-value l =
-    Items spaced_figure (end l.n l.p) l.s (end l.n l.p (marking l.initial.marks l.initial.row) (many spaced_figure l.s l.at)) (marking l.marks l.row) l.i
+abbrev pub invariant-loop-state : goal.invariant-loop-state
+invariant-loop-state l =
+    Items spaced_figure (end l.n l.p) l.s (end l.n l.p (marking l.initial.marks) (many spaced_figure l.s l.at)) (marking l.marks) l.next
 
-abbrev pub decreases-loop-value : goal.decreases-loop-value
-decreases-loop-value l = length l.s - l.i
+abbrev pub decreases-loop-state : goal.decreases-loop-state
+decreases-loop-state l = length l.s - l.next

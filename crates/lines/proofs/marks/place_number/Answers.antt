@@ -1,10 +1,9 @@
 -- `lines::place_number` meets its contract.
-use mathlib.Core.Path.{sym}
-use Rattle.lines.proofs.marks.Marked.{own_number, past_number}
+use Rattle.std.proofs.Common.{arith}
+use Rattle.std.proofs.lemmas.Bool.Decides.{nat_tests}
+use Rattle.lines.specs.Marking.{up_to64}
 use Rattle.lines.proofs.marks.place_number.Goals as goal
 
-pub returns-then-k-lt-MAX_PLACES : goal.returns-then-k-lt-MAX_PLACES
-returns-then-k-lt-MAX_PLACES c = sym (own_number _ c.if-k-lt-MAX_PLACES.true)
-
-pub returns-else-k-lt-MAX_PLACES : goal.returns-else-k-lt-MAX_PLACES
-returns-else-k-lt-MAX_PLACES c = sym (past_number _ c.if-k-lt-MAX_PLACES.false)
+pub returns : goal.returns
+unfolding up_to64
+returns c = grind (arith, nat_tests, c.min.ensures)

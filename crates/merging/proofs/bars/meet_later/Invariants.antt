@@ -2,8 +2,5 @@
 use Rattle.merging.proofs.Later.{Extended}
 use Rattle.merging.proofs.bars.meet_later.Given as goal
 
-abbrev pub invariant-loop-left : goal.invariant-loop-left
-invariant-loop-left l = Extended l.sets l.pre l.machines l.events l.initial.later l.later l.left
-
-abbrev pub decreases-loop-left : goal.decreases-loop-left
-decreases-loop-left l = l.left
+abbrev pub invariant-loop-m : goal.invariant-loop-m
+invariant-loop-m l = Extended l.sets l.pre l.machines l.events l.initial.later l.later l.m

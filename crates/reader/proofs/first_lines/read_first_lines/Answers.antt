@@ -1,28 +1,20 @@
 -- `reader::read_first_lines` meets its contract: the promise of the states line, then that of the events line.
-use Prim.Native.Nat.{ℕ}
-use mathlib.Core.List.{List}
-use Rattle.reader.specs.Sections.{StatesFound, ReadsEvents, FirstRead}
-use Rattle.reader.proofs.Phases.{states_found, states_refused, events_found, events_refused, first_found}
-use Rattle.reader.proofs.first_lines.read_first_lines.Goals.{In-Read}
+use Rattle.std.proofs.Common.{refl}
+use Rattle.std.proofs.lemmas.Result.{err_from_is_err_and}
+use Rattle.reader.proofs.Phases.{first_found}
 use Rattle.reader.proofs.first_lines.read_first_lines.Goals as goal
 
--- behind the states line: the text, and what is found
-abbrev text : In-Read → List ℕ
-text c = c.args.s.now
+pub returns-in_err-first : goal.returns-in_err-first
+returns-in_err-first c =
+    let p = err_from_is_err_and c.from_residual.result c.from_residual.ensures.1 in
+    rw (p.1, p.2) (record { first_read = c.in_err-first.ensures; others = refl; lengths = tt })
 
-first : (c : In-Read) → StatesFound (text c) c.in-Read.states c.in-Read.initial c.in-Read.at
-first c = states_found c.in-Read.is c.declared_states.ensures
+pub returns-in_err-next : goal.returns-in_err-next
+returns-in_err-next c =
+    let p = err_from_is_err_and c.from_residual-in_err-next.result c.from_residual-in_err-next.ensures.1 in
+    rw (p.1, p.2) (record { first_read = c.in_err-next.ensures.reads_events _ _ _ c.in_ok-first.ensures.rest; others = refl; lengths = tt })
 
-pub returns-in-Refused : goal.returns-in-Refused
-unfolding FirstRead
-returns-in-Refused c = states_refused _ c.in-Refused.is c.declared_states.ensures
-
-pub returns-in-Refused-declared_events : goal.returns-in-Refused-declared_events
-unfolding FirstRead ReadsEvents
-returns-in-Refused-declared_events c =
-    events_refused _ _ _ _ _ c.in-Refused-declared_events.is (c.declared_events.ensures _ _ _ (first (goal.at.returns-in-Refused-declared_events c).In-Read).rest)
-
-pub returns-in-Read-declared_events : goal.returns-in-Read-declared_events
-unfolding FirstRead ReadsEvents
-returns-in-Read-declared_events c =
-    first_found (first (goal.at.returns-in-Read-declared_events c).In-Read) (events_found c.in-Read-declared_events.is (c.declared_events.ensures _ _ _ (first (goal.at.returns-in-Read-declared_events c).In-Read).rest))
+pub returns : goal.returns
+returns c =
+    let f = c.in_ok-first.ensures in
+    rw c.fill_hints.ensures (record { first_read = first_found f (c.in_ok-next.ensures.reads_events _ _ _ f.rest); others = refl; lengths = refl })

@@ -1,12 +1,12 @@
 -- `agrees` meets its contract: each way out is a case of `agreeing`.
-use Rattle.regions.proofs.crossings.Agreeing.{agree_staying, agree_leaving, agree_apart}
+use borrow.Author.Tests.{eq-eqb, ne_eqb}
+use Rattle.regions.specs.Crossings.{agreeing}
 use Rattle.regions.proofs.crossings.agrees.Goals as goal
 
 pub returns-then-a : goal.returns-then-a
-returns-then-a c = agree_staying _ _ c.if-a.true
+unfolding agreeing
+returns-then-a c = simp (eq-eqb _ _ c.if-a.true)
 
-pub returns-then-a-b : goal.returns-then-a-b
-returns-then-a-b c = agree_leaving _ _ c.if-a.false c.if-a-b.true
-
-pub returns : goal.returns
-returns c = agree_apart _ _ c.if-a.false c.if-a-b.false
+pub returns-else-a : goal.returns-else-a
+unfolding agreeing
+returns-else-a c = simp (ne_eqb _ _ c.if-a.false) c.eq.ensures

@@ -1,7 +1,7 @@
 -- `crossing_at` meets its contract.
-use Rattle.regions.proofs.crossings.Agreeing.{crossed}
+use Rattle.regions.specs.Crossings.{crossing_at}
 use Rattle.regions.proofs.crossings.crossing_at.Goals as goal
 
 pub returns : goal.returns
-returns c =
-    crossed _ _ _ _ _ _ _ c.wide.ensures.0 c.wide-2.ensures.0
+unfolding crossing_at
+returns c = cc

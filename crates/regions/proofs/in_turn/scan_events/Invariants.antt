@@ -1,17 +1,16 @@
 -- `scan_events`: the walk along the transitions of an event keeps that they agree with its first, the loop over the events that those before are level
--- and their moves in the rows. Left by the break, the event is the first that is not; left by its test, there is none.
-use Prim.Native.Nat.{◌-◌, ◌≤◌}
+-- and their moves in the rows. Left by the break, the event is the first that is not; left at its end, there is none.
+use Rattle.std.proofs.Common.{◌≡◌, ◌-◌, None}
 use Rattle.regions.proofs.in_turn.Scan.{Walked, Sofar}
 use Rattle.regions.proofs.in_turn.scan_events.Given as goal
 
 abbrev pub invariant-loop-k : goal.invariant-loop-k
-invariant-loop-k l = Walked l.source l.target l.place l.first l.next l.n l.m l.e l.one l.k
+invariant-loop-k l = Walked l.plan.source l.plan.target l.plan.place l.chains.first.now l.chains.next.now l.plan.counts.transitions l.m l.e l.one l.k × (l.uneven ≡ None)
 
 abbrev pub decreases-loop-k : goal.decreases-loop-k
-decreases-loop-k l = l.n - l.k
+decreases-loop-k l = l.plan.counts.transitions - l.k
 
 abbrev pub invariant-events : goal.invariant-events
-invariant-events l = (l.e ≤ l.events) × Sofar l.source l.target l.place l.first l.next l.n l.m l.initial.pre l.initial.post l.pre l.post l.e
-
-abbrev pub decreases-events : goal.decreases-events
-decreases-events l = l.events - l.e
+invariant-events l =
+    Sofar l.plan.source l.plan.target l.plan.place l.chains.first.now l.chains.next.now l.plan.counts.transitions l.m l.initial.moves.pre l.initial.moves.post l.moves.pre l.moves.post l.e
+    × (l.uneven ≡ None)

@@ -1,12 +1,17 @@
--- `agree_in` meets its contract. The laws are in `Columns`.
-use borrow.Author.Tests.{not-false}
-use mathlib.Core.Bool.{false≢true}
+-- `agree_in` meets its contract. The laws are in `Columns` and `Putting`.
+use Rattle.std.proofs.Common.{◌∙◌, sym}
 use Rattle.regions.proofs.lanes.Columns.{alike_lanes}
+use Rattle.regions.proofs.lanes.Putting.{moves_put}
 use Rattle.regions.proofs.lanes.agree_in.Goals as goal
-
-pub returns-then-not-transpose : goal.returns-then-not-transpose
-returns-then-not-transpose c = λ q. absurd (false≢true q)
 
 pub returns : goal.returns
 returns c =
-    λ q. alike_lanes c.args.c c.requires.comparable (c.transpose.ensures.lane (not-false _ c.if-not-transpose.false-raw)) _ c.requires.machines_bound.0 c.first_uneven.ensures q
+    let counts = c.args.plan.now.counts in
+    let q = c.requires.comparable in
+    let lanes = c.transpose.ensures.lane c.if-not-transpose.false in
+    let few = c.requires.machines_bound.0 in
+    record {
+      rows = c.put_moves.ensures.rows;
+      alike = λ _. alike_lanes counts q lanes _ few c.first_uneven.ensures (sym c.is_some.ensures ∙ c.if-is_some.false);
+      moves = λ _. moves_put counts q lanes few c.put_moves.ensures;
+    }

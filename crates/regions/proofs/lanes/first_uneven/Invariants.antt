@@ -1,17 +1,16 @@
 -- `first_uneven`: the walk along the transitions of an event keeps that they lead like its first, the loop over the events that those before are even. Left by the
--- break, the event is the first that is not; left by its test, there is none.
-use Prim.Native.Nat.{◌-◌}
+-- break, the event is the first that is not; left at its end, there is none.
+use Rattle.std.proofs.Common.{◌≡◌, ◌-◌, None}
 use Rattle.regions.proofs.lanes.Uneven.{Comparing, Even}
 use Rattle.regions.proofs.lanes.first_uneven.Given as goal
 
 abbrev pub invariant-loop-k : goal.invariant-loop-k
-invariant-loop-k l = Comparing l.source l.target l.first l.next l.columns l.n l.e l.from l.to l.k
+invariant-loop-k l = Comparing l.plan.source l.plan.target l.chains.first.now l.chains.next.now l.columns l.plan.counts.transitions l.e l.from l.to l.k × (l.uneven ≡ None)
 
 abbrev pub decreases-loop-k : goal.decreases-loop-k
-decreases-loop-k l = l.n - l.k
+decreases-loop-k l = l.plan.counts.transitions - l.k
 
 abbrev pub invariant-events : goal.invariant-events
-invariant-events l = Even l.source l.target l.first l.next l.columns l.events l.n l.e
-
-abbrev pub decreases-events : goal.decreases-events
-decreases-events l = l.events - l.e
+invariant-events l =
+    Even l.plan.source l.plan.target l.chains.first.now l.chains.next.now l.columns l.plan.counts.events l.plan.counts.transitions l.e
+    × (l.uneven ≡ None)

@@ -1,11 +1,7 @@
 -- `lanes_agree` meets its contract. The laws are in `Lanes`.
-use Prim.Native.Nat.{◌-◌, ◌≤◌}
-use mathlib.Core.Path.{◌≡◌}
+use Rattle.std.proofs.Common.{◌≡◌}
 use Rattle.regions.specs.Columns.{lanes_agree}
 use Rattle.regions.proofs.lanes.lanes_agree.Given as goal
 
 abbrev pub invariant-loop-m : goal.invariant-loop-m
-invariant-loop-m l = (l.m ≤ 16) × (l.all ≡ lanes_agree l.columns l.from l.to l.from2 l.to2 l.m)
-
-abbrev pub decreases-loop-m : goal.decreases-loop-m
-decreases-loop-m l = 16 - l.m
+invariant-loop-m l = l.all ≡ lanes_agree l.columns l.from l.to l.from2 l.to2 l.m

@@ -1,7 +1,5 @@
 -- `replies::wrong_words::wrong_word` meets its contract: each turn passes a word that the service takes. The laws are in `Judging`.
-use mathlib.Core.Bool.{not}
-use mathlib.Core.Path.{ap}
-use Rattle.replies.proofs.Judging.{right_start, wrong_here, right_more, one_missing, all_right, first_wrong, wrong_behind}
+use Rattle.replies.proofs.Judging.{right_start, wrong_here, right_more, left_out, first_wrong, wrong_behind}
 use Rattle.replies.proofs.wrong_words.wrong_word.Goals as goal
 
 pub returns-in-Unknown : goal.returns-in-Unknown
@@ -13,19 +11,12 @@ loop-at-init c = right_start c.second_word-at.ensures.0 c.second_word-at.ensures
 pub returns-then-not-takes : goal.returns-then-not-takes
 returns-then-not-takes c =
     wrong_behind c.args.words.now c.service_asked-asked.ensures c.in_default.not-Unknown
-    (wrong_here c.loop-at.invariant c.loop-at-test.true c.word_end-end.ensures c.takes.ensures (ap not c.if-not-takes.true))
+    (wrong_here c.loop-at.invariant c.loop-at-test.true c.word_end-end.ensures c.takes.ensures c.if-not-takes.true)
 
 pub loop-at-preserved : goal.loop-at-preserved
-loop-at-preserved c =
-    right_more c.loop-at.invariant c.loop-at-test.true
-    c.word_end-end.ensures c.takes.ensures (ap not c.if-not-takes.false)
-
-pub returns-then-k-least_words : goal.returns-then-k-least_words
-returns-then-k-least_words c =
-    wrong_behind c.args.words.now c.service_asked-asked.ensures c.in_default.not-Unknown
-    (one_missing c.loop-at.invariant c.loop-at-test.false c.least_words.ensures c.if-k-least_words.true)
+loop-at-preserved c = right_more c.loop-at.invariant c.loop-at-test.true c.word_end-end.ensures c.takes.ensures c.if-not-takes.false
 
 pub returns : goal.returns
 returns c =
     wrong_behind c.args.words.now c.service_asked-asked.ensures c.in_default.not-Unknown
-    (all_right c.loop-at.invariant c.loop-at-test.false c.least_words.ensures c.if-k-least_words.false)
+    (rw (c.then_some.ensures, c.least_words.ensures) (left_out c.loop-at.invariant c.loop-at-test.false))

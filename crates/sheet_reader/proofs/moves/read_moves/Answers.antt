@@ -1,22 +1,24 @@
--- `sheet_reader::moves::read_moves` meets its contract: the loop keeps `Moving`.
+-- The loop keeps `Moving`.
 use native.Mathlib.Omega.{arith}
+use mathlib.Core.Path.{ap, ◌∙◌}
+use Rattle.std.specs.Prelude.{Ok}
+use Rattle.std.proofs.lemmas.Result.{err_from_is_err_and}
 use Rattle.sheet_reader.proofs.Moving.{moving_start, moving_end, moving_bad, move_on_lem, moving_more}
 use Rattle.sheet_reader.proofs.moves.read_moves.Goals as goal
 
-pub loop-more-init : goal.loop-more-init
-loop-more-init c = moving_start c.requires.0 c.requires.3
+pub loop-next-init : goal.loop-next-init
+loop-next-init c = moving_start c.requires.0 c.requires.1
 
-pub next_move-requires : goal.next_move-requires
-next_move-requires c = let a = c.requires in (c.loop-more.invariant.most, a.1, a.2)
+pub loop-next-smaller : goal.loop-next-smaller
+loop-next-smaller c = omega (arith, move_on_lem c.loop-next.invariant c.next_move.ensures (c.in_ok-next.was ∙ ap Ok c.in-Some.is))
 
-pub returns-in-Missing : goal.returns-in-Missing
-returns-in-Missing c = moving_end c.loop-more.invariant c.next_move.ensures c.in-Missing.is
+pub loop-next-preserved : goal.loop-next-preserved
+loop-next-preserved c = moving_more c.loop-next.invariant c.next_move.ensures (c.in_ok-next.was ∙ ap Ok c.in-Some.is)
 
-pub returns-in-Bad : goal.returns-in-Bad
-returns-in-Bad c = moving_bad c.loop-more.invariant c.next_move.ensures c.in-Bad.is
+pub returns-in_err-next : goal.returns-in_err-next
+returns-in_err-next c =
+    let (why, e, same) = err_from_is_err_and c.from_residual.result c.from_residual.ensures.1 in
+    rw (e, same) (moving_bad c.loop-next.invariant c.next_move.ensures c.in_err-next.was)
 
-pub loop-more-smaller : goal.loop-more-smaller
-loop-more-smaller c = omega (arith, move_on_lem c.loop-more.invariant c.next_move.ensures c.in-Stored.is)
-
-pub loop-more-preserved : goal.loop-more-preserved
-loop-more-preserved c = moving_more c.loop-more.invariant c.next_move.ensures c.in-Stored.is
+pub returns : goal.returns
+returns c = moving_end c.loop-next.invariant c.next_move.ensures (c.in_ok-next.was ∙ ap Ok c.in_default.is)

@@ -1,13 +1,13 @@
--- `sheet_reader::moves::read_moves` meets its contract: the loop keeps `Moving`.
+-- The loop keeps `Moving`.
 use Prim.Native.Nat.{◌-◌}
 use lib.ListN.{length}
-use Rattle.sheet_reader.specs.Lent.{lent_rows}
+use Rattle.sheet_reader.specs.Lent.{lent}
 use Rattle.sheet_reader.proofs.Moving.{Moving}
 use Rattle.sheet_reader.proofs.moves.read_moves.Given as goal
 
-abbrev pub invariant-loop-more : goal.invariant-loop-more
-invariant-loop-more l =
-    Moving l.s l.at l.m l.places l.count (lent_rows l.initial.len l.initial.high l.initial.low l.initial.pre l.initial.post) l.i l.c (lent_rows l.len l.high l.low l.pre l.post)
+abbrev pub invariant-loop-next : goal.invariant-loop-next
+invariant-loop-next l =
+    Moving l.s l.at l.machine.number l.machine.places l.initial.names.count (lent l.initial.names l.initial.moves) l.i l.names.count (lent l.names l.moves)
 
-abbrev pub decreases-loop-more : goal.decreases-loop-more
-decreases-loop-more l = length l.s - l.i
+abbrev pub decreases-loop-next : goal.decreases-loop-next
+decreases-loop-next l = length l.s - l.i

@@ -1,7 +1,0 @@
--- `board_c::board_run` meets its contract: what `board` answers, flat.
-use mathlib.Core.Path.{ap, ◌∙◌}
-use Rattle.flat.specs.Flat.{flat_run}
-use Rattle.board_c.proofs.board_run.Goals as goal
-
-pub returns : goal.returns
-returns c = c.flat_run.ensures ∙ ap flat_run c.board.ensures

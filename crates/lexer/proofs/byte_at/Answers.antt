@@ -1,7 +1,0 @@
--- `lexer::byte_at` meets its contract: past the end `get_or` gives 0 too.
-use mathlib.Core.Path.{sym}
-use lib.ListN.{get_or-eq_default}
-use Rattle.lexer.proofs.byte_at.Goals as goal
-
-pub returns-else-at-s : goal.returns-else-at-s
-returns-else-at-s c = sym (get_or-eq_default c.args.s.now 0 c.if-at-s.false)

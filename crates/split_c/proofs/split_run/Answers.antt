@@ -1,7 +1,0 @@
--- `split_c::split_run` meets its contract: what `run` answers, flat.
-use mathlib.Core.Path.{ap, ◌∙◌}
-use Rattle.flat.specs.Flat.{flat_run}
-use Rattle.split_c.proofs.split_run.Goals as goal
-
-pub returns : goal.returns
-returns c = c.flat_run.ensures ∙ ap flat_run c.run.ensures
