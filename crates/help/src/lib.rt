@@ -14,7 +14,8 @@ fn put(out: &impl Print, words: &[u8]) {
 fn put_usage(out: &impl Print) {
     put(
         out,
-        b"; usage: ./split [check [LENT] | steps [LENT] | name EVENT | run [EVENT..] | thin | merge [LENT] | quote [LENT] | sheet [LENT] | board [NAME..] | help [text] | explain REFUSAL [A [B]]] < TEXT or SHEET, or FILE\n",
+        b"; usage: ./split [check [LENT] | steps [LENT] | name EVENT | run [EVENT..] | thin | merge [LENT] | \
+          quote [LENT] | sheet [LENT] | board [NAME..] | help [text] | explain REFUSAL [A [B]]] < TEXT or SHEET, or FILE\n",
     );
 }
 

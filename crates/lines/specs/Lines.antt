@@ -10,6 +10,7 @@ use Rattle.model.specs.Reading.{Parsed, fail, got}
 use Rattle.model.specs.Form.{Line, states, events, step, machine, start_of}
 use Rattle.lexer.specs.Words.{high, low, packed_name}
 use Rattle.lexer.specs.declared.FigureAt.{FigureAt}
+use Rattle.names.specs.declared.Names.{Names}
 use Rattle.lines.specs.declared.StatesLine.{StatesLine}
 use Rattle.lines.specs.declared.EventsLine.{EventsLine}
 use Rattle.lines.specs.declared.StepLine.{StepLine}
@@ -46,6 +47,10 @@ pub record EventRows : Type 0 where
 
 abbrev pub event_rows : List ℕ → List ℕ → List ℕ → List ℕ → EventRows
 event_rows a b c d = record { placed = a; lengths = b; highs = c; lows = d }
+
+-- the positions of names, and the names
+abbrev pub rows_of_events : List ℕ → Names → EventRows
+rows_of_events ats names = event_rows ats names.«len» names.high names.low
 
 -- they have all their entries
 pub record FullRows (r : EventRows) : Type 0 where

@@ -14,7 +14,7 @@ use Rattle.model.specs.Form.{Line, states, step, start_of, states_line, step_lin
 use Rattle.model.specs.Text.{Input, lines_from, event_number, value_of, distinct, read, line_two}
 use Rattle.model.proofs.Values.{Named, lines}
 use Rattle.rows.specs.Rows.{row, place_row}
-use Rattle.lines.specs.Lines.{spots, duplicate_mark, EventRows, event_rows, names_from}
+use Rattle.lines.specs.Lines.{spots, duplicate_mark, EventRows, event_rows, rows_of_events, names_from}
 use Rattle.names.specs.Held.{PackedNames}
 use Rattle.rows.specs.declared.Counts.{Counts}
 use Rattle.rows.specs.declared.Tables.{Tables}
@@ -102,10 +102,6 @@ pub record StatesFound (s : List ℕ) (n k next : ℕ) : Type 0 where
 abbrev pub StatesRead : List ℕ → Result States D.Refusal → Type 0
 StatesRead s (Err why) = read s ≡ refused (tabled why)
 StatesRead s (Ok r) = StatesFound s r.count r.initial r.next
-
--- the rows of names, of which their positions stand apart
-abbrev pub rows_of_events : List ℕ → Names → EventRows
-rows_of_events ats names = event_rows ats names.«len» names.high names.low
 
 -- the rows before an events line is read
 abbrev pub no_names : EventRows

@@ -1,6 +1,7 @@
 // The first two lines of a text: the states, and the names of the events.
 ghost use Rattle.std.specs.Prelude.{◌≡◌, ◌≤◌, ◌&&◌, leb, IfOk};
-ghost use Rattle.reader.specs.Sections.{StatesRead, rows_of_events, no_names, ReadsEvents, FirstRead, with_name_rows};
+ghost use Rattle.lines.specs.Lines.{rows_of_events};
+ghost use Rattle.reader.specs.Sections.{StatesRead, no_names, ReadsEvents, FirstRead, with_name_rows};
 
 use lines::{read_events, read_states};
 use model::{MAX_EVENTS, MAX_STATES, MAX_TEXT, Refusal};
