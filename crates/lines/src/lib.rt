@@ -4,7 +4,7 @@
 ghost use Rattle.std.specs.Prelude.{◌≡◌, ◌≤◌, ◌&&◌, leb};
 ghost use Rattle.model.specs.Reading.{many};
 ghost use Rattle.model.specs.Form.{start_given, states_line, events_line, step_line, machine_line, spaced_name};
-ghost use Rattle.lines.specs.Lines.{as_given, as_states, rows_of_events, FullRows, with_names, as_events, StoresNames, as_step, as_machine, without_row};
+ghost use Rattle.lines.specs.Lines.{as_given, as_states, rows_of_events, with_names, as_events, StoresNames, as_step, as_machine, without_row};
 ghost use Rattle.lines.specs.Marking.{as_names};
 
 use lexer::{
@@ -80,7 +80,6 @@ pub fn read_states(s: &[u8], at: usize) -> Option<StatesLine>
 
 // The names from a position on, each after a space, into rows: of each of the first 64 its position in the text, its length, and its bytes as two numbers.
 fn read_names(s: &[u8], at: usize, spot: &mut [usize; MAX_EVENTS], names: &mut Names) -> EventsLine
-    requires { FullRows (rows_of_events spot.old names.old) }
     ensures value { result ≡ as_names (many spaced_name s.now at) }
     ensures low_after { rows_of_events spot.new names.new ≡ with_names at (rows_of_events spot.old names.old) (many spaced_name s.now at).0 }
     ensures count_kept { names.new.count ≡ names.old.count }
@@ -108,7 +107,6 @@ pub fn read_events(
     spot: &mut [usize; MAX_EVENTS],
     names: &mut Names,
 ) -> Option<EventsLine>
-    requires { FullRows (rows_of_events spot.old names.old) }
     ensures value { result ≡ as_events (events_line s.now at) }
     ensures stores_names { StoresNames at (events_line s.now at) (rows_of_events spot.old names.old) (rows_of_events spot.new names.new) }
     ensures count_kept { names.new.count ≡ names.old.count }

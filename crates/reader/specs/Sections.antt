@@ -14,11 +14,10 @@ use Rattle.model.specs.Form.{Line, states, step, start_of, states_line, step_lin
 use Rattle.model.specs.Text.{Input, lines_from, event_number, value_of, distinct, read, line_two}
 use Rattle.model.proofs.Values.{Named, lines}
 use Rattle.rows.specs.Rows.{row, place_row}
-use Rattle.lines.specs.Lines.{spots, duplicate_mark, EventRows, event_rows, rows_of_events, names_from}
+use Rattle.lines.specs.Lines.{spots, duplicate_mark, EventRows, event_rows, names_from}
 use Rattle.names.specs.Held.{PackedNames}
 use Rattle.rows.specs.declared.Counts.{Counts}
 use Rattle.rows.specs.declared.Tables.{Tables}
-use Rattle.names.specs.declared.Names.{Names}
 use Rattle.quick_step_line.specs.declared.QuickStep.{QuickStep}
 use Rattle.reader.specs.declared.first_lines.States.{States}
 use Rattle.reader.specs.declared.first_lines.Declared.{Declared}

@@ -1,4 +1,5 @@
 -- `lines::read_names` meets its contract: the loop keeps `Naming`.
+use borrow.Author.Rules.{rules}
 use native.Mathlib.Omega.{arith}
 use mathlib.Core.Path.{refl}
 use Rattle.model.specs.Form.{spaced_name}
@@ -12,7 +13,7 @@ item : (c : In-Some) → GotName (spaced_name c.args.s.now c.loop-found.next) c.
 item c = name_got _ c.read_spaced_name.ensures c.in-Some.is
 
 pub loop-found-init : goal.loop-found-init
-loop-found-init c = record { naming = names_start refl c.requires; count_kept = refl; hints_kept = refl }
+loop-found-init c = record { naming = names_start refl (search rules); count_kept = refl; hints_kept = refl }
 
 pub returns : goal.returns
 returns c =

@@ -2,25 +2,14 @@
 use Prim.Native.Nat.{ℕ, ◌≤◌}
 use native.Mathlib.Omega.{arith}
 use mathlib.Core.Path.{◌≡◌, ap}
-use lib.ListN.{length}
 use Rattle.model.specs.Reading.{Parsed}
 use Rattle.model.specs.Form.{Line}
 use Rattle.lines.specs.declared.EventsLine.{EventsLine}
 use Rattle.rows.specs.Rows.{row}
-use Rattle.lines.specs.Lines.{spots, names_from, EventRows, FullRows, with_names}
+use Rattle.lines.specs.Lines.{spots, names_from, EventRows, with_names}
 use Rattle.lines.proofs.Found.{GotEvents}
 use Rattle.names.specs.Held.{PackedNames}
 use Rattle.reader.specs.Sections.{no_names}
-
--- rows in which nothing is stored yet
-pub fresh_full : {r : EventRows} → r ≡ no_names → FullRows r
-fresh_full e =
-    record {
-      placed_full = ap (λ (x : EventRows). length x.placed) e;
-      lengths_full = ap (λ (x : EventRows). length x.lengths) e;
-      highs_full = ap (λ (x : EventRows). length x.highs) e;
-      lows_full = ap (λ (x : EventRows). length x.lows) e;
-    }
 
 -- the rows that an events line leaves in them
 module _ {o : Parsed Line} {at : ℕ} {r : EventsLine} {before after : EventRows} (g : GotEvents o at r before after) (fresh : before ≡ no_names) where

@@ -2,12 +2,9 @@
 use Rattle.std.proofs.Common.{sym, arith}
 use Rattle.model.specs.Cases.{tabled}
 use Rattle.lines.proofs.Found.{events_got, events_missing}
-use Rattle.reader.proofs.first_lines.EventRows.{fresh_full, events_rows, events_placed}
+use Rattle.reader.proofs.first_lines.EventRows.{events_rows, events_placed}
 use Rattle.reader.proofs.Phases.{events_fail, events_many, events_twice, events_more}
 use Rattle.reader.proofs.first_lines.declared_events.Goals as goal
-
-pub read_events-requires : goal.read_events-requires
-read_events-requires c = fresh_full c.requires
 
 pub returns-in_default-clause-reads_events : goal.returns-in_default-clause-reads_events
 unfolding tabled
