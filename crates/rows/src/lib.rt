@@ -1,6 +1,7 @@
 // What a text holds once it is read, as counts and rows of numbers, and the moves of its machines. Reader and checks have these in common.
 #![tactic(auto)]
 
+ghost use Rattle.std.specs.Prelude.{◌≡◌};
 ghost use Rattle.rows.specs.Tables.{FreshTables, NoMoves};
 
 use model::{MAX_EVENTS, MAX_MACHINES, MAX_TRANSITIONS};
@@ -26,6 +27,14 @@ pub struct Counts {
     pub events: usize,
     pub transitions: usize,
     pub machines: usize,
+}
+
+// The transitions of a text in the order of the lines, as rows that are lent, of any length.
+#[derive(Clone, Copy)]
+pub struct Transitions<'a> {
+    pub source: &'a [u8],
+    pub event: &'a [u8],
+    pub target: &'a [u8],
 }
 
 // What a text holds, in rows. Document 01: a plan and its split. Rows of numbers and no rows of structs: the core works on numbers, and a check reads one row of them.
@@ -68,6 +77,17 @@ impl Tables {
             sizes: [0; MAX_MACHINES],
             duplicate: [NO_STATE; MAX_MACHINES],
             place: [UNPLACED; 4096],
+        }
+    }
+
+    // The rows of the transitions, lent together.
+    pub fn transitions(&self) -> Transitions<'_>
+        ensures { (result.source.now ≡ self.now.source) × (result.event.now ≡ self.now.event) × (result.target.now ≡ self.now.target) }
+    {
+        Transitions {
+            source: &self.source,
+            event: &self.event,
+            target: &self.target,
         }
     }
 }
