@@ -7,21 +7,21 @@ ghost use Rattle.rows.specs.Told.{first_transitions};
 ghost use Rattle.listing.specs.Records.{record_at, first_records, filled};
 
 use model::Transition;
-use rows::Tables;
+use rows::Transitions;
 
 // Room for the numbers of 1,024 transitions, the most that a text has.
 pub const NUMBERS: usize = 3072;
 
 // Three numbers to each transition, in line order.
-pub fn list_transitions(plan: &Tables, numbers: &mut [u8])
-    requires { (plan.now.counts.transitions ≤ 1024) × (3 * plan.now.counts.transitions ≤ length numbers.old) }
-    ensures { map recorded (first_records numbers.new plan.now.counts.transitions) ≡ first_transitions plan.now.source plan.now.event plan.now.target plan.now.counts.transitions }
+pub fn list_transitions(transitions: Transitions, n: usize, numbers: &mut [u8])
+    requires { let t = transitions in (n ≤ length t.source.now) × (n ≤ length t.event.now) × (n ≤ length t.target.now) × (3 * n ≤ length numbers.old) }
+    ensures { let t = transitions.entry in map recorded (first_records numbers.new n) ≡ first_transitions t.source.now t.event.now t.target.now n }
 {
-    for k in 0..plan.counts.transitions {
+    for k in 0..n {
         let at = 3 * k;
-        numbers[at] = plan.source[k];
-        numbers[at + 1] = plan.event[k];
-        numbers[at + 2] = plan.target[k];
+        numbers[at] = transitions.source[k];
+        numbers[at + 1] = transitions.event[k];
+        numbers[at + 2] = transitions.target[k];
     }
 }
 

@@ -21,7 +21,7 @@ pub fn read_as_far_as_7(text: &[u8], plan: &mut Tables) -> Result<(), Refusal>
 {
     read_rows(text, plan)?;
     let mut excited = [0u64; EXCITATION_WORDS];
-    check_transition_system(plan, &mut excited)
+    check_transition_system(plan.counts, plan.transitions(), &mut excited)
 }
 
 // The text's refusal as far as 10. Passed, the tables have what it holds, and the other rows its machines' moves and the excitation sets.

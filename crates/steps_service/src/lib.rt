@@ -22,7 +22,7 @@ fn list(text: &[u8], room: usize, row: &mut [u8; NUMBERS]) -> Result<usize, Refu
     if room < needed {
         return Err(Refusal::BufferTooShort { needed }); // 13 short sheet
     }
-    list_transitions(&plan, row);
+    list_transitions(plan.transitions(), needed, row);
     Ok(needed)
 }
 

@@ -13,7 +13,7 @@ ghost use Rattle.transition_system.specs.Sets.{Excitations, Has, Successors, Clo
 ghost use Rattle.transition_system.specs.Reaches.{Reaches};
 
 use model::Refusal;
-use rows::Tables;
+use rows::{Counts, Transitions};
 use state_set::{
     StateSet, contains_at, insert, join, load, lowest, single, without, without_lowest,
 };
@@ -29,12 +29,12 @@ const FEW_STATES: usize = 16;
 const FEW_SUCCESSOR_WORDS: usize = 64;
 
 // The first of n transitions that leads from state s by event e, if one does.
-fn first_leading(plan: &Tables, n: usize, s: u8, e: u8) -> Option<usize>
-    requires { n ≤ 1024 }
-    ensures { ((targets : List ℕ) → unwrap_or result n ≡ index (leads s e) (first_transitions plan.now.source plan.now.event targets n)) × (unwrap_or result n ≤ n) }
+fn first_leading(transitions: Transitions, n: usize, s: u8, e: u8) -> Option<usize>
+    requires { let t = transitions in (n ≤ length t.source.now) × (n ≤ length t.event.now) }
+    ensures { let t = transitions.entry in ((targets : List ℕ) → unwrap_or result n ≡ index (leads s e) (first_transitions t.source.now t.event.now targets n)) × (unwrap_or result n ≤ n) }
 {
     for k in 0..n {
-        if plan.source[k] == s && plan.event[k] == e {
+        if transitions.source[k] == s && transitions.event[k] == e {
             return Some(k);
         }
     }
@@ -43,19 +43,19 @@ fn first_leading(plan: &Tables, n: usize, s: u8, e: u8) -> Option<usize>
 
 // Transition k, once those before it are in the sets: refused by 4 or 5, or put into them.
 fn add_transition(
-    plan: &Tables,
+    transitions: Transitions,
     k: usize,
     excited: &mut [u64; EXCITATION_WORDS],
     successors: &mut [u64],
 ) -> Result<(), Refusal>
-    requires in_rows { InRows plan.now.source plan.now.event plan.now.target successors.old k }
-    requires sets_of { SetsOf (first_transitions plan.now.source plan.now.event plan.now.target k) excited.old successors.old }
-    ensures result_value { verdict_refusal result ≡ next_refusal plan.now.source plan.now.event plan.now.target k }
-    ensures sets_of_2 { verdict_refusal result ≡ none → SetsOf (first_transitions plan.now.source plan.now.event plan.now.target (suc k)) excited.new successors.new }
+    requires in_rows { let t = transitions in InRows t.source.now t.event.now t.target.now successors.old k }
+    requires sets_of { let t = transitions in SetsOf (first_transitions t.source.now t.event.now t.target.now k) excited.old successors.old }
+    ensures result_value { let t = transitions.entry in verdict_refusal result ≡ next_refusal t.source.now t.event.now t.target.now k }
+    ensures sets_of_2 { let t = transitions.entry in verdict_refusal result ≡ none → SetsOf (first_transitions t.source.now t.event.now t.target.now (suc k)) excited.new successors.new }
 {
-    let s = plan.source[k];
-    let t = plan.target[k];
-    let e = plan.event[k];
+    let s = transitions.source[k];
+    let t = transitions.target[k];
+    let e = transitions.event[k];
     // the transitions follow the lines of the states and the events
     let line = k + 3;
     if s == t {
@@ -63,7 +63,7 @@ fn add_transition(
     }
     if contains_at(excited, usize::from(e), s) {
         // one of the k transitions before this one leads there
-        let earlier = first_leading(plan, k, s, e).unwrap_or(k) + 3;
+        let earlier = first_leading(transitions, k, s, e).unwrap_or(k) + 3;
         return Err(Refusal::Nondeterministic { line, earlier }); // 5 fork
     }
     insert(excited, usize::from(e), s);
@@ -73,18 +73,18 @@ fn add_transition(
 
 // 4 and 5 over the transitions in order. The excitation set of each event and the successors of each state are found on the way.
 fn add_transitions(
-    plan: &Tables,
+    transitions: Transitions,
     n: usize,
     excited: &mut [u64; EXCITATION_WORDS],
     successors: &mut [u64],
 ) -> Result<(), Refusal>
-    requires by_index { (k : ℕ) → k < n → InRows plan.now.source plan.now.event plan.now.target successors.old k }
+    requires by_index { let t = transitions in (k : ℕ) → k < n → InRows t.source.now t.event.now t.target.now successors.old k }
     requires sets_of { SetsOf [] excited.old successors.old }
-    ensures result_value { verdict_refusal result ≡ transitions_refusal [] (first_transitions plan.now.source plan.now.event plan.now.target n) }
-    ensures sets_of_2 { verdict_refusal result ≡ none → SetsOf (first_transitions plan.now.source plan.now.event plan.now.target n) excited.new successors.new }
+    ensures result_value { let t = transitions.entry in verdict_refusal result ≡ transitions_refusal [] (first_transitions t.source.now t.event.now t.target.now n) }
+    ensures sets_of_2 { let t = transitions.entry in verdict_refusal result ≡ none → SetsOf (first_transitions t.source.now t.event.now t.target.now n) excited.new successors.new }
 {
     for k in 0..n {
-        add_transition(plan, k, excited, successors)?;
+        add_transition(transitions, k, excited, successors)?;
     }
     Ok(())
 }
@@ -143,17 +143,18 @@ fn unreached_state(successors: &[u64], initial: u8, n: usize) -> Option<usize>
 
 // 4 to 7 in the paper's order, with a row of empty sets for the successors.
 fn check_with(
-    plan: &Tables,
+    c: Counts,
+    transitions: Transitions,
     excited: &mut [u64; EXCITATION_WORDS],
     successors: &mut [u64],
 ) -> Result<(), Refusal>
-    requires bounded { Bounded (system_rows plan.now.counts plan.now.source plan.now.event plan.now.target) × Excitations [] excited.old }
-    requires successors { Successors [] successors.old × (plan.now.counts.states * 4 ≤ length successors.old) }
-    ensures result_value { verdict_refusal result ≡ system_refusal (system_of (system_rows plan.now.counts plan.now.source plan.now.event plan.now.target)) }
-    ensures excitations { verdict_refusal result ≡ none → Excitations (system_of (system_rows plan.now.counts plan.now.source plan.now.event plan.now.target)).transitions excited.new }
+    requires bounded { let t = transitions in Bounded (system_rows c t.source.now t.event.now t.target.now) × Excitations [] excited.old }
+    requires transitions_in_bounds { let t = transitions in (c.transitions ≤ length t.source.now) × (c.transitions ≤ length t.event.now) × (c.transitions ≤ length t.target.now) }
+    requires successors { Successors [] successors.old × (c.states * 4 ≤ length successors.old) }
+    ensures result_value { let t = transitions.entry in verdict_refusal result ≡ system_refusal (system_of (system_rows c t.source.now t.event.now t.target.now)) }
+    ensures excitations { let t = transitions.entry in verdict_refusal result ≡ none → Excitations (system_of (system_rows c t.source.now t.event.now t.target.now)).transitions excited.new }
 {
-    let c = plan.counts;
-    add_transitions(plan, c.transitions, excited, successors)?;
+    add_transitions(transitions, c.transitions, excited, successors)?;
     if let Some(event) = unused_event(excited, c.events) {
         return Err(Refusal::UnusedEvent { event }); // 6 idle event
     }
@@ -165,18 +166,20 @@ fn check_with(
 
 // 4 to 7. Passed, `excited` has the excitation set of each event.
 pub fn check_transition_system(
-    plan: &Tables,
+    c: Counts,
+    transitions: Transitions,
     excited: &mut [u64; EXCITATION_WORDS],
 ) -> Result<(), Refusal>
-    requires { Bounded (system_rows plan.now.counts plan.now.source plan.now.event plan.now.target) × Excitations [] excited.old }
-    ensures result_value { verdict_refusal result ≡ system_refusal (system_of (system_rows plan.now.counts plan.now.source plan.now.event plan.now.target)) }
-    ensures excitations { verdict_refusal result ≡ none → Excitations (system_of (system_rows plan.now.counts plan.now.source plan.now.event plan.now.target)).transitions excited.new }
+    requires bounded { let t = transitions in Bounded (system_rows c t.source.now t.event.now t.target.now) × Excitations [] excited.old }
+    requires transitions_in_bounds { let t = transitions in (c.transitions ≤ length t.source.now) × (c.transitions ≤ length t.event.now) × (c.transitions ≤ length t.target.now) }
+    ensures result_value { let t = transitions.entry in verdict_refusal result ≡ system_refusal (system_of (system_rows c t.source.now t.event.now t.target.now)) }
+    ensures excitations { let t = transitions.entry in verdict_refusal result ≡ none → Excitations (system_of (system_rows c t.source.now t.event.now t.target.now)).transitions excited.new }
 {
-    if plan.counts.states <= FEW_STATES {
+    if c.states <= FEW_STATES {
         let mut few = [0u64; FEW_SUCCESSOR_WORDS];
-        check_with(plan, excited, &mut few)
+        check_with(c, transitions, excited, &mut few)
     } else {
         let mut successors = [0u64; SUCCESSOR_WORDS];
-        check_with(plan, excited, &mut successors)
+        check_with(c, transitions, excited, &mut successors)
     }
 }

@@ -4,4 +4,4 @@ use Rattle.listing.proofs.Numbers.{Listed}
 use Rattle.listing.proofs.list_transitions.Given as goal
 
 abbrev pub invariant-loop-k : goal.invariant-loop-k
-invariant-loop-k l = Listed l.plan.source l.plan.event l.plan.target (length l.initial.numbers) l.numbers l.k
+invariant-loop-k l = Listed l.transitions.source.now l.transitions.event.now l.transitions.target.now (length l.initial.numbers) l.numbers l.k

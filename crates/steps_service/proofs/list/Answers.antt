@@ -22,9 +22,16 @@ pub returns-then-room-needed : goal.returns-then-room-needed
 returns-then-room-needed c = lists_too_few (seven (goal.at.returns-then-room-needed c).In_ok-read_as_far_as_7) c.if-room-needed.true
 
 pub list_transitions-requires : goal.list_transitions-requires
-list_transitions-requires c = let h = (seven (goal.at.list_transitions-requires c).In_ok-read_as_far_as_7).bounds.transitions in (h, omega (arith, h))
+list_transitions-requires c =
+    let held = seven (goal.at.list_transitions-requires c).In_ok-read_as_far_as_7 in
+    let (source, event, target) = c.transitions.ensures in
+    let most = held.bounds.transitions in
+    let lengths = held.sized.checked in
+    rw (source, event, target)
+    (omega (arith, most, lengths.crossed.sources), omega (arith, most, lengths.events), omega (arith, most, lengths.crossed.targets), omega (arith, most))
 
 pub returns : goal.returns
 returns c =
     let h = seven (goal.at.returns c).In_ok-read_as_far_as_7 in
-    lists_all h c.if-room-needed.false (omega (arith, h.bounds.transitions)) c.list_transitions.ensures
+    lists_all h c.if-room-needed.false (omega (arith, h.bounds.transitions))
+    (rw (c.transitions.ensures.0, c.transitions.ensures.1, c.transitions.ensures.2) at c.list_transitions.ensures)

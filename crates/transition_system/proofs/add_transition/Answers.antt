@@ -8,8 +8,8 @@ use Rattle.transition_system.proofs.add_transition.Goals as goal
 
 -- whether the event is excited already
 excites : (c : After-contains_at) → c.contains_at.result
-    ≡ member_at c.args.excited.now (get_or c.args.plan.now.event c.args.k 0)
-    (get_or c.args.plan.now.source c.args.k 0)
+    ≡ member_at c.args.excited.now (get_or c.args.transitions.event.now c.args.k 0)
+    (get_or c.args.transitions.source.now c.args.k 0)
 excites c = tested _ _ c.from.ensures c.contains_at.ensures
 
 pub returns-then-s-t : goal.returns-then-s-t

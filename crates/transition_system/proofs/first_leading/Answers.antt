@@ -3,9 +3,9 @@ use native.Mathlib.Omega.{arith}
 use Rattle.transition_system.proofs.Leading.{leading}
 use Rattle.transition_system.proofs.first_leading.Goals as goal
 
-pub returns-then-plan-k-2 : goal.returns-then-plan-k-2
-returns-then-plan-k-2 c =
-    (λ targets. leading targets (record { most = omega arith; each = c.loop-k.invariant }) (λ _. record { from = c.if-plan-k.true; label = c.if-plan-k-2.true }), omega arith)
+pub returns-then-transitions-k-2 : goal.returns-then-transitions-k-2
+returns-then-transitions-k-2 c =
+    (λ targets. leading targets (record { most = omega arith; each = c.loop-k.invariant }) (λ _. record { from = c.if-transitions-k.true; label = c.if-transitions-k-2.true }), omega arith)
 
 pub returns : goal.returns
 returns c =
