@@ -1,11 +1,13 @@
--- Numerals: what the test of the digits says, and the number that they write, as far as a bound.
+-- Numerals: what the test of the digits says, what makes a numeral, and the number that the digits write, as far as a bound.
 use Prim.Native.Nat.{ℕ, suc, ◌+◌, ◌-◌, ◌*◌, ◌<◌, ◌≤◌, min}
 use native.Mathlib.Numerals.{add-one}
 use native.Mathlib.Omega.{arith}
 use mathlib.Core.Path.{◌≡◌, refl, ap, sym, ◌∙◌}
 use mathlib.Core.Logic.{◌⊎◌, inl, inr}
-use mathlib.Core.Bool.{Bool, ◌&&◌}
+use mathlib.Core.Bool.{Bool, true, not, ◌&&◌, ◌||◌, or-true}
 use mathlib.Core.List.{List, [], ◌∷◌}
+use borrow.Author.Tests.{le-leb, eq-eqb, ne_eqb}
+use lib.Dec.{eqb}
 use lib.ListN.{length, get_or, drop, drop_of_length-le}
 use lib.Seq.{drop-cons}
 use Rattle.std.specs.List.{list_all}
@@ -13,6 +15,7 @@ use Rattle.std.specs.Char.{is_ascii_digit}
 use Rattle.model.specs.Lists.{every}
 use Rattle.model.specs.Bytes.{is_digit, decimal_from, decimal}
 use Rattle.model.proofs.Laws.{order}
+use Rattle.command_line.specs.Words.{is_numeral}
 
 -- ---- the digits
 
@@ -21,6 +24,21 @@ pub digits_all : (w : List ℕ) → list_all is_ascii_digit w ≡ every is_digit
 unfolding every is_digit
 digits_all [] = refl
 digits_all (b ∷ w) = ap (λ (t : Bool). is_ascii_digit b && t) (digits_all w)
+
+-- ---- the numeral
+
+module _ (w : List ℕ) (any : length w ≡ 0 → ⊥) (plain : 1 < length w → get_or w 0 0 ≡ 48 → ⊥) where
+  -- one byte, or more that do not begin with 0
+  first_fine : (eqb (length w) 1 || not (eqb (get_or w 0 0) 48)) ≡ true
+  first_fine = go (order 1 (length w))
+    where
+      go : (1 < length w) ⊎ (length w ≤ 1) → (eqb (length w) 1 || not (eqb (get_or w 0 0) 48)) ≡ true
+      go (inl l) = rw (ne_eqb (get_or w 0 0) 48 (plain l), or-true)
+      go (inr l) = rw (eq-eqb (length w) 1 (omega (arith, any)))
+
+  pub is_numeral_lem : every is_digit w ≡ true → true ≡ is_numeral w
+  unfolding is_numeral
+  is_numeral_lem d = rw (first_fine, d, le-leb 1 (length w) (omega (arith, any)))
 
 -- ---- the number
 

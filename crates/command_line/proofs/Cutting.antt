@@ -117,11 +117,11 @@ module _ {s : List ℕ} {end : ℕ} (c : WordCut s 0 end) where
   unfolding service_asked
   asks_first h e = e ∙ sym (ap service_asked (first_of h))
 
-  further_behind : end < length s → words_in (drop (end + 1) s) ≡ further_words (words_in s)
+  pub further_behind : end < length s → words_in (drop (end + 1) s) ≡ further_words (words_in s)
   unfolding further_words
   further_behind h = sym (ap further_words (first_of (omega arith)))
 
-  further_none : length s ≤ end → words_in (drop end s) ≡ further_words (words_in s)
+  pub further_none : length s ≤ end → words_in (drop end s) ≡ further_words (words_in s)
   unfolding further_words
   further_none h = ap words_in (drop_of_length-le s h) ∙ no_words [] refl ∙ go (length s) refl
     where

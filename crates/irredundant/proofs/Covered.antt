@@ -51,11 +51,11 @@ module _ (pre below above : List ℕ) (onAbove : List Bool) (excited : List ℕ)
     unfolding member_at
     lowest_left = vo ∙ lowest_same _ _ 256 (λ i _. vy i ∙ rw (vc i, va, vb, vx))
 
-    none_left : o ≡ None → On pre onAbove m e → true ≡ covered_without pre below above onAbove excited m e
+    pub none_left : o ≡ None → On pre onAbove m e → true ≡ covered_without pre below above onAbove excited m e
     unfolding covered_without none_below is_some state_found
     none_left q h = rw (h.on, sym lowest_left, q)
 
-    some_left : {s : ℕ} → o ≡ Some s → false ≡ covered_without pre below above onAbove excited m e
+    pub some_left : {s : ℕ} → o ≡ Some s → false ≡ covered_without pre below above onAbove excited m e
     unfolding covered_without none_below is_some state_found
     some_left q = rw (sym lowest_left, q) (sym (and-false (get_or onAbove e false || on_some pre e m)))
 
@@ -75,6 +75,13 @@ module _ (f : ℕ → Bool) (n : ℕ) where
   pub each_passes : none_below (λ e. not (f e)) n ≡ true → (j : ℕ) → j < n → f j ≡ true
   unfolding none_below
   each_passes q j l = T_true (f j) (not_not (f j) (lowest_none _ n (is_some_none (lowest (λ e. not (f e)) n) (rw q tt)) j l))
+
+  pub not_covered : {e : ℕ} {r : Bool} → e < n → r ≡ f e → not r ≡ true → none_below (λ e. not (f e)) n ≡ false
+  not_covered {e} {r} l v q = go (none_below (λ e. not (f e)) n) refl
+    where
+      go : (t : Bool) → none_below (λ e. not (f e)) n ≡ t → none_below (λ e. not (f e)) n ≡ false
+      go true w = absurd (false≢true (sym (not-true r q) ∙ v ∙ each_passes w e l))
+      go false w = w
 
 -- what `all` answers of the events
 pub all_covered : (f : ℕ → Bool) (n : ℕ) (r : Bool)

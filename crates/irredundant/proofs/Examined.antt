@@ -8,7 +8,7 @@ use mathlib.Core.List.{List, [], ◌∷◌}
 use mathlib.Core.Option.{none}
 use mir.Val.{bool_byte}
 use lib.ListN.{length, get_or, drop, replicate, length-drop}
-use lib.Pow.{pow_pos}
+use lib.Pow.{pow_pos, pow_mono}
 use lib.Seq.{drop-cons, drop-length}
 use Rattle.model.specs.Lists.{At, count}
 use Rattle.model.specs.TransitionSystem.{TransitionSystem}
@@ -134,6 +134,13 @@ module _ {excited sets pre : List ℕ} {machines events : ℕ} where
         on_size = refl;
         marks = λ ts ms post told a b. rw a (examined_none told);
       }
+
+  -- one digit more has room in 16
+  pub thin_room : {above : List ℕ} {onAbove : List Bool} {kept size left : ℕ}
+      → Thinning excited sets pre machines events above onAbove kept size left → machines ≤ 16 → 0 < left → kept < 32768
+  thin_room {left = left} t l h =
+      let p : 2 ^ (machines - left) ≤ 2 ^ 15 = pow_mono {i = machines - left} {j = 15} (omega arith) in
+      omega (arith, t.low, p)
 
   -- machine m is examined, and r says that it is redundant
   pub thin_more :
