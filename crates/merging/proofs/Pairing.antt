@@ -35,6 +35,12 @@ module _ (a b c : StateSet) (o : Option ℕ) (v : (i : ℕ) → member c i ≡ (
   unfolding have_in_common
   in_common q = q ∙ sym (found_some o) ∙ ap is_some both
 
+  pub none_common : o ≡ None → false ≡ have_in_common (member a) (member b)
+  none_common q = in_common (rw q refl)
+
+  pub some_common : {s : ℕ} → o ≡ Some s → true ≡ have_in_common (member a) (member b)
+  some_common q = in_common (rw q refl)
+
 pub same_common : (f g h : ℕ → Bool) → ((i : ℕ) → f i ≡ g i) → have_in_common f h ≡ have_in_common g h
 unfolding have_in_common
 same_common f g h v = ap is_some (lowest_same _ _ 256 (λ i _. ap (λ (b : Bool). b && h i) (v i)))

@@ -138,9 +138,9 @@ module _ {pre post : List ℕ} {machines : ℕ} {places : List ℕ} {e : ℕ} wh
               let s : stands ≡ true = v ∙ rw o in
               lane_on stands q (λ t c. absurd (omega arith)) (λ t. absurd (rw s at t)) (λ c. w ∙ rw o)
 
-  -- all sixteen are passed, and all are ready
-  pub lane_all : {moved : List ℕ} {all : Bool} {m : ℕ} → Lanes pre post machines places e moved all m → 16 ≤ m → all ≡ true → Lanes pre post machines places e moved true 16
-  lane_all {moved} {all} {m} z l t = let q : m ≡ 16 = omega (arith, z.most) in rw (q, t) at z
+  -- all sixteen are passed
+  pub lane_all : {moved : List ℕ} {all : Bool} {m : ℕ} → Lanes pre post machines places e moved all m → 16 ≤ m → Lanes pre post machines places e moved all 16
+  lane_all {m = m} z l = let q : m ≡ 16 = omega (arith, z.most) in rw q at z
 
   module _ (few : machines ≤ 16) (s : length places ≡ 16) where
     -- none blocks

@@ -11,4 +11,4 @@ pub loop-m-preserved : goal.loop-m-preserved
 loop-m-preserved c = λ machines b. lane_more (c.loop-m.invariant machines b) (omega (arith, sixteen (goal.at.loop-m-preserved c).Start)) b c.is_ready-ready.ensures c.place_after.ensures
 
 pub returns-then-ready : goal.returns-then-ready
-returns-then-ready c = λ machines b. lane_all (c.loop-m.invariant machines b) (omega (arith, sixteen (goal.at.returns-then-ready c).Start)) c.if-ready.true
+returns-then-ready c = λ machines b. rw c.if-ready.true at (lane_all (c.loop-m.invariant machines b) (omega (arith, sixteen (goal.at.returns-then-ready c).Start)))
