@@ -73,7 +73,7 @@ module _ (s : List ℕ) where
         unfolding line_after in_limit is_declared
         start_undeclared u = rest_undeclared (rest_start s h) g.read t (lt-leb (suc (start_of g.start)) w.count (omega (arith, g.initial)))
 
-        states_more : w.start < w.count → Rest s (states w.count g.start ∷ []) w.next (read s)
+        pub states_more : w.start < w.count → Rest s (states w.count g.start ∷ []) w.next (read s)
         unfolding line_after in_limit is_declared
         states_more u = rest_more (rest_start s h) g.read t (le-leb (suc (start_of g.start)) w.count (omega (arith, g.initial)))
 
