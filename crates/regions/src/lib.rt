@@ -8,6 +8,7 @@ use at_once::pass_at_once;
 use chains::{Chains, index_by_event};
 use in_turn::check_in_turn;
 use model::{MAX_EVENTS, MAX_TRANSITIONS, Refusal};
+pub use rows::{MOVES, NOT_ON};
 use rows::{Moves, Tables};
 
 mod at_once; // all machines at once: whether all pass, and then the moves
