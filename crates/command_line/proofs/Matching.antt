@@ -10,7 +10,7 @@ use Rattle.model.specs.Bytes.{lower, is_capital, same_name}
 use Rattle.model.proofs.Laws.{T_true}
 use Rattle.model.proofs.OneEvent.{one_of, of_one}
 
-small : (b : ℕ) → to_ascii_lowercase b ≡ lower b
+pub small : (b : ℕ) → to_ascii_lowercase b ≡ lower b
 unfolding lower is_capital
 small b = grind (arith, nat_tests)
 

@@ -8,7 +8,7 @@ ghost use Rattle.std.proofs.Math.Option.{none, some};
 ghost use Rattle.model.specs.Bytes.{same_name};
 ghost use Rattle.model.specs.BoardTable.{ended};
 ghost use Rattle.model.specs.Text.{event_number};
-ghost use Rattle.rows.specs.Names.{row_names};
+ghost use Rattle.rows.specs.Names.{names_in};
 ghost use Rattle.command_line.specs.Words.{service_said, is_name_word, said, event_said};
 ghost use Rattle.command_line.specs.WordRow.{words_in, only_word, EachEnded, WordCut, BeginsAt, Lists};
 ghost use Rattle.command_line.specs.Program.{service_asked, further_words, size_said, one_event_said, events_said};
@@ -16,7 +16,6 @@ ghost use Rattle.command_line.specs.Names.{NameRows};
 
 use lexer::read_name;
 pub use numerals::{is_numeral, number_said};
-use rows::Tables;
 
 mod numerals; // numerals, and the numbers that they write
 
@@ -51,6 +50,14 @@ const SERVICES: [(&[u8], Service); 11] = [
     (b"explain", Service::Explain),
 ];
 
+// The names of a text's events: where each begins in the text, its length, and how many there are.
+#[derive(Clone, Copy)]
+pub struct DeclaredNames<'a> {
+    pub at: &'a [usize],
+    pub len: &'a [usize],
+    pub count: usize,
+}
+
 fn service_said(word: &[u8]) -> Service
     ensures { result ≡ service_said word.now }
 {
@@ -78,13 +85,13 @@ fn same_name(a: &[u8], b: &[u8]) -> bool
 }
 
 // The number of the event with this name.
-fn event_named(text: &[u8], plan: &Tables, word: &[u8]) -> Option<usize>
-    requires { NameRows text.now plan.now }
-    ensures { unwrap_or result plan.now.counts.events ≡ event_number (row_names text.now plan.now) word.now }
+fn event_named(text: &[u8], names: DeclaredNames, word: &[u8]) -> Option<usize>
+    requires { NameRows text.now names.at.now names.«len».now names.count }
+    ensures { let d = names.entry in unwrap_or result d.count ≡ event_number (names_in text.now d.at.now d.«len».now d.count) word.now }
 {
-    for e in 0..plan.counts.events {
-        let from = plan.name_at[e];
-        let end = from + plan.name_len[e];
+    for e in 0..names.count {
+        let from = names.at[e];
+        let end = from + names.len[e];
         if same_name(word, &text[from..end]) {
             return Some(e);
         }
@@ -94,13 +101,13 @@ fn event_named(text: &[u8], plan: &Tables, word: &[u8]) -> Option<usize>
 
 // The event that a word says by its name or its number. One that is not declared is the count of events, or a number up to 255.
 #[tactic(auto, using(crate::proofs::Saying::event_small, crate::proofs::Saying::number_small), unfolding(crate::specs::Words::said, crate::specs::Words::event_said))]
-fn event_said(text: &[u8], plan: &Tables, word: &[u8]) -> Option<usize>
-    requires { NameRows text.now plan.now }
-    ensures result_value { said result ≡ event_said (row_names text.now plan.now) word.now }
+fn event_said(text: &[u8], names: DeclaredNames, word: &[u8]) -> Option<usize>
+    requires { NameRows text.now names.at.now names.«len».now names.count }
+    ensures result_value { let d = names.entry in said result ≡ event_said (names_in text.now d.at.now d.«len».now d.count) word.now }
     ensures by_index { (n : ℕ) → said result ≡ some n → n < 256 }
 {
     if is_name(word) {
-        return Some(event_named(text, plan, word).unwrap_or(plan.counts.events));
+        return Some(event_named(text, names, word).unwrap_or(names.count));
     }
     number_said(word, 255)
 }
@@ -175,26 +182,26 @@ pub fn word_begin(words: &[u8], number: usize) -> usize
 
 // The event that one word says.
 #[tactic(auto, using(crate::proofs::Cutting::no_event, crate::proofs::Cutting::one_event), unfolding(crate::specs::Words::said))]
-pub fn one_event_said(words: &[u8], text: &[u8], plan: &Tables) -> Option<usize>
-    requires { NameRows text.now plan.now }
-    ensures { said result ≡ one_event_said (row_names text.now plan.now) (words_in words.now) }
+pub fn one_event_said(words: &[u8], text: &[u8], names: DeclaredNames) -> Option<usize>
+    requires { NameRows text.now names.at.now names.«len».now names.count }
+    ensures { let d = names.entry in said result ≡ one_event_said (names_in text.now d.at.now d.«len».now d.count) (words_in words.now) }
 {
-    event_said(text, plan, only_word(words)?)
+    event_said(text, names, only_word(words)?)
 }
 
 // The events that the words say, one for each, at the beginning of the row: how many, or None where a word says none. A word has a byte of its
 // own at least, so each event has its place before the words that are still to be read.
 #[tactic(auto, unfolding(crate::specs::Words::said))]
-pub fn events_said(words: &mut [u8], text: &[u8], plan: &Tables) -> Option<usize>
-    requires { NameRows text.now plan.now }
-    ensures { Lists (events_said (row_names text.now plan.now) (words_in words.old)) result words.new }
+pub fn events_said(words: &mut [u8], text: &[u8], names: DeclaredNames) -> Option<usize>
+    requires { NameRows text.now names.at.now names.«len».now names.count }
+    ensures { let d = names.entry in Lists (events_said (names_in text.now d.at.now d.«len».now d.count) (words_in words.old)) result words.new }
 {
     // no iterator over the words: it would borrow the row, whose beginning is written over
     let mut n = 0;
     let mut at = 0;
     while at < words.len() {
         let end = word_end(words, at);
-        let event = event_said(text, plan, &words[at..end])?;
+        let event = event_said(text, names, &words[at..end])?;
         words[n] = event as u8;
         n += 1;
         at = end + 1;

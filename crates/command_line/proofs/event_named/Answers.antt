@@ -10,8 +10,8 @@ use Rattle.command_line.proofs.event_named.Goals.{In-loop-e}
 use Rattle.command_line.proofs.event_named.Goals as goal
 
 -- the name lies in the text
-inside : (c : In-loop-e) → entry c.args.plan.now.name_at c.loop-e.e + entry c.args.plan.now.name_len c.loop-e.e ≤ length c.args.text.now
-inside c = name_inside c.args.text.now c.args.plan.now.name_at c.args.plan.now.name_len c.requires.inside c.loop-e.e c.loop-e-test.true
+inside : (c : In-loop-e) → entry c.args.names.at.now c.loop-e.e + entry c.args.names.«len».now c.loop-e.e ≤ length c.args.text.now
+inside c = name_inside c.args.text.now c.args.names.at.now c.args.names.«len».now c.requires.inside c.loop-e.e c.loop-e-test.true
 
 pub loop-e-init : goal.loop-e-init
 loop-e-init c = upto_start
@@ -24,13 +24,13 @@ slice_bounds-same_name-end c = omega (arith, inside (goal.at.slice_bounds-same_n
 
 pub returns-then-same_name : goal.returns-then-same_name
 returns-then-same_name c =
-    event_is c.args.text.now c.args.plan.now.name_at c.args.plan.now.name_len c.args.word.now c.loop-e.invariant
-    (by_cut c.args.text.now c.args.plan.now.name_at c.args.plan.now.name_len c.args.word.now c.loop-e.e c.same_name.ensures c.if-same_name.true)
+    event_is c.args.text.now c.args.names.at.now c.args.names.«len».now c.args.word.now c.loop-e.invariant
+    (by_cut c.args.text.now c.args.names.at.now c.args.names.«len».now c.args.word.now c.loop-e.e c.same_name.ensures c.if-same_name.true)
 
 pub loop-e-preserved : goal.loop-e-preserved
 loop-e-preserved c =
     upto_more c.loop-e.invariant c.loop-e-test.true
-    (by_cut c.args.text.now c.args.plan.now.name_at c.args.plan.now.name_len c.args.word.now c.loop-e.e c.same_name.ensures c.if-same_name.false)
+    (by_cut c.args.text.now c.args.names.at.now c.args.names.«len».now c.args.word.now c.loop-e.e c.same_name.ensures c.if-same_name.false)
 
 pub returns : goal.returns
-returns c = let p = c.args.plan.now in event_none c.args.text.now p.name_at p.name_len c.args.word.now c.loop-e.invariant c.loop-e-test.false
+returns c = event_none c.args.text.now c.args.names.at.now c.args.names.«len».now c.args.word.now c.loop-e.invariant c.loop-e-test.false

@@ -7,4 +7,4 @@ use Rattle.rows.proofs.Names.{name_in}
 use Rattle.command_line.proofs.event_named.Given as goal
 
 abbrev pub invariant-loop-e : goal.invariant-loop-e
-invariant-loop-e l = Upto (λ j. same_name l.word (name_in l.text l.plan.name_at l.plan.name_len j) ≡ false) l.plan.counts.events l.e
+invariant-loop-e l = Upto (λ j. same_name l.word (name_in l.text l.names.at.now l.names.«len».now j) ≡ false) l.names.count l.e
