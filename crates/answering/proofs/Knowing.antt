@@ -18,9 +18,9 @@ use Rattle.std.specs.Prelude.{Ok, Err}
 use Rattle.std.specs.Prelude as Std
 use Rattle.rows.specs.declared.Tables.{Tables}
 use Rattle.rows.specs.Bounded.{NamesInside}
-use Rattle.rows.specs.Names.{names_in, row_names}
+use Rattle.rows.specs.Names.{names_in}
 use Rattle.rows.proofs.Names.{told_names}
-use Rattle.rows.proofs.Verdicts.{refuses, lets_pass, refused_as}
+use Rattle.rows.proofs.Verdicts.{lets_pass, refused_as}
 use Rattle.stages.specs.Stages.{ReadAsFarAs7, ReadAsFarAs12, Held}
 use Rattle.stages.proofs.Stages.{refused_text, past_text, past_12}
 use Rattle.command_line.specs.Names.{NameRows}
@@ -31,27 +31,13 @@ use Rattle.answering.specs.Known.{known_names}
 
 -- ---- the rows of names
 
--- the same tables, with so many names
-abbrev pub with_names : Tables → ℕ → Tables
-with_names p n =
-    record {
-      counts = record { states = p.counts.states; initial = p.counts.initial; events = n; transitions = p.counts.transitions; machines = p.counts.machines };
-      name_at = p.name_at;
-      name_len = p.name_len;
-      source = p.source;
-      event = p.event;
-      target = p.target;
-      sizes = p.sizes;
-      duplicate = p.duplicate;
-      place = p.place;
-    }
-
-no_rows : (s : List ℕ) (p : Tables) → NameRows s (with_names p 0)
+no_rows : (s ats lens : List ℕ) → NameRows s ats lens 0
 unfolding NamesInside
-no_rows s p = record { most = omega arith; inside = λ e l. absurd (omega arith) }
+no_rows s ats lens = record { most = omega arith; at_size = omega arith; len_size = omega arith; inside = λ e l. absurd (omega arith) }
 
-held_rows : {s : List ℕ} {c : Checked Input} {p : Tables} → Held c s p → NameRows s p
-held_rows h = record { most = h.bounds.events; inside = h.names }
+held_rows : {s : List ℕ} {c : Checked Input} {p : Tables} → Held c s p → NameRows s p.name_at p.name_len p.counts.events
+held_rows h =
+    record { most = h.bounds.events; at_size = omega (arith, h.bounds.events, h.sized.name_places); len_size = omega (arith, h.bounds.events, h.sized.name_lengths); inside = h.names }
 
 names_refused : {c : Checked Input} {q : Refusal} → c ≡ refused q → [] ≡ names_of c
 unfolding names_of
@@ -64,18 +50,13 @@ names_passed e = sym (ap names_of e)
 -- ---- as far as 7
 
 module _ (s : List ℕ) (p : Tables) {n : ℕ} where
-  pub reads_7 : (r : Std.Result (Unit {0}) D.Refusal) → ReadAsFarAs7 s r p → n ≡ known_names r p.counts.events → ReadAsFarAs7 s r (with_names p n)
+  pub rows_7 : (r : Std.Result (Unit {0}) D.Refusal) → ReadAsFarAs7 s r p → n ≡ known_names r p.counts.events → NameRows s p.name_at p.name_len n
   unfolding known_names
-  reads_7 (Err why) h k = rw k (record { verdict = h.verdict; held = refuses why })
-  reads_7 (Ok u) h k = rw k h
-
-  pub rows_7 : (r : Std.Result (Unit {0}) D.Refusal) → ReadAsFarAs7 s r p → n ≡ known_names r p.counts.events → NameRows s (with_names p n)
-  unfolding known_names
-  rows_7 (Err why) h k = rw k (no_rows s p)
+  rows_7 (Err why) h k = rw k (no_rows s p.name_at p.name_len)
   rows_7 (Ok u) h k = rw k (held_rows (h.held (lets_pass refl)))
 
   pub names_7 : (r : Std.Result (Unit {0}) D.Refusal) → ReadAsFarAs7 s r p → n ≡ known_names r p.counts.events
-      → row_names s (with_names p n) ≡ names_of (as_far_as7 s)
+      → names_in s p.name_at p.name_len n ≡ names_of (as_far_as7 s)
   unfolding known_names names_in
   names_7 (Err why) h k = rw k (names_refused (refused_as h.verdict refl))
   names_7 (Ok u) h k = let q = h.held (lets_pass refl) in rw k (told_names s q.value p q.told ∙ names_passed q.passes)
@@ -128,23 +109,17 @@ passes_7 s v e =
     (passed_clear (as_far_as10 s) (λ w. cover_refusal (system w) w.machines) v e).0).0
 
 module _ (s : List ℕ) (p : Tables) {pre post excited : List ℕ} {n : ℕ} where
-  pub reads_12 : (r : Std.Result (Unit {0}) D.Refusal) → ReadAsFarAs12 s r p pre post excited → n ≡ known_names r p.counts.events
-      → ReadAsFarAs12 s r (with_names p n) pre post excited
+  pub rows_12 : (r : Std.Result (Unit {0}) D.Refusal) → ReadAsFarAs12 s r p pre post excited → n ≡ known_names r p.counts.events → NameRows s p.name_at p.name_len n
   unfolding known_names
-  reads_12 (Err why) h k = rw k (record { verdict = h.verdict; judged = refuses why })
-  reads_12 (Ok u) h k = rw k h
-
-  pub rows_12 : (r : Std.Result (Unit {0}) D.Refusal) → ReadAsFarAs12 s r p pre post excited → n ≡ known_names r p.counts.events → NameRows s (with_names p n)
-  unfolding known_names
-  rows_12 (Err why) h k = rw k (no_rows s p)
+  rows_12 (Err why) h k = rw k (no_rows s p.name_at p.name_len)
   rows_12 (Ok u) h k = rw k (held_rows (past_text h refl).past.held)
 
   pub events_12 : (r : Std.Result (Unit {0}) D.Refusal) → ReadAsFarAs12 s r p pre post excited → n ≡ known_names r p.counts.events → (ws : List (List ℕ))
-      → map (printed_run s) (events_said (row_names s (with_names p n)) ws) ≡ map (printed_run s) (events_said (names_of (as_far_as7 s)) ws)
+      → map (printed_run s) (events_said (names_in s p.name_at p.name_len n) ws) ≡ map (printed_run s) (events_said (names_of (as_far_as7 s)) ws)
   unfolding known_names
   events_12 (Err why) h k ws =
       alike_printed (printed_run s) (written_refusal (tabled why)) (run_refused s (refused_text h refl))
-      (alike_events (row_names s (with_names p n)) (names_of (as_far_as7 s)) ws)
+      (alike_events (names_in s p.name_at p.name_len n) (names_of (as_far_as7 s)) ws)
   events_12 (Ok u) h k ws =
       let j = past_text h refl in
       rw k

@@ -23,6 +23,7 @@ use Rattle.command_line.specs.WordRow.{words_in, list_said, Lists}
 use Rattle.command_line.specs.Program.{size_said, answer_thin, answer_by, answer_to, output_of, service_asked, further_words}
 use Rattle.command_line.proofs.Cutting.{words, no_words, some_words}
 use Rattle.command_line.proofs.Cutting as Cutting
+use Rattle.answering.specs.Left.{LeavesBytes}
 
 -- the same answer, whatever it is called
 pub shows_answer : {o q : Option (List ℕ)} {r : Std.Option ℕ} {out : List ℕ} → o ≡ q → Lists o r out → Lists q r out
@@ -68,6 +69,10 @@ pub says_some : {r : Std.Option ℕ} {k : ℕ} {o : Option ℕ} → r ≡ Some k
 unfolding said
 says_some e q = sym (ap said e) ∙ q
 
+-- the service that was asked for, by its case
+pub asked_as : {asked a : Service} (ws : List (List ℕ)) (s : List ℕ) → asked ≡ a → answer_by a ws s ≡ answer_by asked ws s
+asked_as ws s e = ap (λ (x : Service). answer_by x ws s) (sym e)
+
 -- ---- calls that lend bytes
 
 module _ (s out : List ℕ) (h : length out ≡ 32768) (ws : List (List ℕ)) {a : Checked ℕ} {left : List ℕ} where
@@ -86,6 +91,21 @@ module _ (s out : List ℕ) (h : length out ≡ 32768) (ws : List (List ℕ)) {a
   pub sheet_said : (a ≡ (rewrite s out).answer) × (left ≡ (rewrite s out).left) → map (λ n. lent_line n a left) (size_said 32768 ws) ≡ answer_by Sheet ws s
   unfolding answer_by
   sheet_said l = printed_same (λ n. lent_line n a left) (printed_sheet s) (λ n. sheet_printed s out h n l) (size_said 32768 ws)
+
+-- none of the others
+pub is_check : {asked : Service} → LeavesBytes asked → ¬ (asked ≡ Merge) → ¬ (asked ≡ Quote) → ¬ (asked ≡ Sheet) → asked ≡ Check
+is_check (inl e) m q t = e
+is_check (inr (inl e)) m q t = absurd (m e)
+is_check (inr (inr (inl e))) m q t = absurd (q e)
+is_check (inr (inr (inr e))) m q t = absurd (t e)
+
+-- none of them is answered where the words are no size
+pub no_size : {asked : Service} (ws : List (List ℕ)) (s : List ℕ) → LeavesBytes asked → none ≡ size_said 32768 ws → none ≡ answer_by asked ws s
+unfolding answer_by
+no_size ws s (inl e) q = printed_none (printed_check s) q ∙ asked_as ws s e
+no_size ws s (inr (inl e)) q = printed_none (printed_merge s) q ∙ asked_as ws s e
+no_size ws s (inr (inr (inl e))) q = printed_none (printed_quote s) q ∙ asked_as ws s e
+no_size ws s (inr (inr (inr e))) q = printed_none (printed_sheet s) q ∙ asked_as ws s e
 
 -- ---- thin
 
@@ -122,10 +142,6 @@ pub answered : (ws : List (List ℕ)) {vs : List (List ℕ)} (s : List ℕ) {ask
     → answer_by asked vs s ≡ answer_to ws s
 answered ws {vs} s {asked} e q =
     ap (λ (a : Service). answer_by a vs s) e ∙ ap (λ (x : List (List ℕ)). answer_by (service_asked ws) x s) q ∙ by_service ws s
-
--- the service that was asked for, by its case
-pub asked_as : {asked a : Service} (ws : List (List ℕ)) (s : List ℕ) → asked ≡ a → answer_by a ws s ≡ answer_by asked ws s
-asked_as ws s e = ap (λ (x : Service). answer_by x ws s) (sym e)
 
 -- what is no service of the library's
 pub no_service : {asked : Service} (ws : List (List ℕ)) (s : List ℕ) → (asked ≡ Help) ⊎ ((asked ≡ Explain) ⊎ (asked ≡ Unknown)) → none ≡ answer_by asked ws s

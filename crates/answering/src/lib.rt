@@ -2,15 +2,16 @@
 #![tactic(auto)]
 
 ghost use Rattle.std.specs.Prelude.{◌≡◌};
-ghost use Rattle.std.proofs.Math.Option.{map};
-ghost use Rattle.printing.specs.Shown.{answered, FitsBuffer, lent_line};
+ghost use Rattle.printing.specs.Shown.{answered};
 ghost use Rattle.command_line.specs.declared.Service.TheVariants.{Name, Run};
 ghost use Rattle.command_line.specs.WordRow.{words_in, EachEnded, Lists};
-ghost use Rattle.command_line.specs.Program.{size_said, answer_by, answer_to};
+ghost use Rattle.command_line.specs.Program.{answer_by, answer_to};
 ghost use Rattle.answering.specs.Known.{known_names};
+ghost use Rattle.answering.specs.Left.{LeavesBytes, Leaves};
 
 use command_line::{
-    Service, events_said, names_said, one_event_said, second_word, service_asked, size_said,
+    DeclaredNames, Service, events_said, names_said, one_event_said, second_word, service_asked,
+    size_said,
 };
 use model::{MAX_TEXT, MAX_TRANSITIONS, Refusal};
 use printing::{
@@ -23,16 +24,26 @@ use stages::{EXCITATION_WORDS, read_as_far_as_7, read_as_far_as_12};
 // The words after the service lie in a row, each ended by byte 0. What is printed stands at the beginning of the buffer, so many bytes; None if the
 // words ask for nothing that can be answered.
 
-// What a call has left in the buffer, with so many bytes lent as the words say.
-fn answer_lent(
-    answer: Result<usize, Refusal>,
-    words: &[u8],
-    out: &mut [u8; MAX_TEXT],
-) -> Option<usize>
-    requires { FitsBuffer (answered answer) }
-    ensures { Lists (map (λ lent. lent_line lent (answered answer) out.old) (size_said 32768 (words_in words.now))) result out.new }
+// What the service leaves in the buffer: the sheet of a text, of a merged text or of a sheet, or a quotation.
+fn leave(asked: Service, text: &[u8], out: &mut [u8; MAX_TEXT]) -> Result<usize, Refusal>
+    requires { LeavesBytes asked }
+    ensures { Leaves asked text.now (answered result) out.new }
+{
+    match asked {
+        Service::Merge => merge(text, out),
+        Service::Quote => quote(text, out),
+        Service::Sheet => sheet(text, out),
+        _ => check(text, out),
+    }
+}
+
+// The same with so many bytes lent as the words say. They are asked first: where they are no size, nothing is read and nothing is left.
+fn answer_lent(asked: Service, words: &[u8], text: &[u8], out: &mut [u8; MAX_TEXT]) -> Option<usize>
+    requires { LeavesBytes asked }
+    ensures { Lists (answer_by asked (words_in words.now) text.now) result out.new }
 {
     let lent = size_said(words, MAX_TEXT)?;
+    let answer = leave(asked, text, out);
     Some(print_lent(answer, lent, out))
 }
 
@@ -52,8 +63,12 @@ fn answer_name(words: &[u8], text: &[u8], out: &mut [u8; MAX_TEXT]) -> Option<us
 {
     let mut plan = Tables::fresh();
     let read = read_as_far_as_7(text, &mut plan);
-    plan.counts.events = known_names(read, plan.counts.events);
-    let event = one_event_said(words, text, &plan)?;
+    let names = DeclaredNames {
+        at: &plan.name_at,
+        len: &plan.name_len,
+        count: known_names(read, plan.counts.events),
+    };
+    let event = one_event_said(words, text, names)?;
     Some(print_name(read, &plan, text, event, out))
 }
 
@@ -66,8 +81,12 @@ fn answer_run(words: &mut [u8], text: &[u8], out: &mut [u8; MAX_TEXT]) -> Option
     let mut moves = Moves::none();
     let mut excited = [0u64; EXCITATION_WORDS];
     let read = read_as_far_as_12(text, &mut plan, &mut moves, &mut excited);
-    plan.counts.events = known_names(read, plan.counts.events);
-    let count = events_said(words, text, &plan)?;
+    let names = DeclaredNames {
+        at: &plan.name_at,
+        len: &plan.name_len,
+        count: known_names(read, plan.counts.events),
+    };
+    let count = events_said(words, text, names)?;
     Some(print_run(read, &plan, &moves, text, &words[..count], out))
 }
 
@@ -82,10 +101,9 @@ fn answer_by(
     ensures { Lists (answer_by asked (words_in words.old) text.now) result out.new }
 {
     match asked {
-        Service::Check => answer_lent(check(text, out), words, out),
-        Service::Merge => answer_lent(merge(text, out), words, out),
-        Service::Quote => answer_lent(quote(text, out), words, out),
-        Service::Sheet => answer_lent(sheet(text, out), words, out),
+        Service::Check | Service::Merge | Service::Quote | Service::Sheet => {
+            answer_lent(asked, words, text, out)
+        }
         Service::Steps => {
             let lent = size_said(words, MAX_TRANSITIONS)?;
             Some(print_steps(text, lent, out))
