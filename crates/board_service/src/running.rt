@@ -67,7 +67,8 @@ pub fn run_names(names: &[u8], sheet: &SheetRows, machines: usize) -> RunAnswer
         };
         let Some(after) = move_lanes(&sheet.moves, bounds, places, known.event, &sixteen) else {
             // one of the machines is not ready
-            let machine = blocking_machine(&sheet.moves, machines, places, known.event).unwrap();
+            let pre = &sheet.moves.pre;
+            let machine = blocking_machine(pre, machines, places, known.event).unwrap();
             return end_blocked(names, known.next, &sheet.names, ran, machine, places);
         };
         places = after;

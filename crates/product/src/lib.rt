@@ -13,7 +13,7 @@ ghost use Rattle.product.specs.Lanes as Lanes;
 ghost use Rattle.product.specs.Stepping.{Standing, PlaceBounds, blocks_at, Steps, IsPadded, EventsOn, RunsFrom, Runs, RunsEvents};
 
 use model::{MAX_MACHINES, MAX_PLACES, MAX_STATES, Refusal};
-use rows::{Moves, Tables};
+use rows::{MOVES, Moves, Tables};
 
 // What became of a list of events.
 #[derive(Clone, Copy)]
@@ -79,17 +79,17 @@ fn place_after(on: bool, to: u8, place: u8) -> u8
 
 // The lowest machine that has event e and stands elsewhere than in its pre-place.
 pub fn blocking_machine(
-    moves: &Moves,
+    pre: &[u8; MOVES],
     machines: usize,
     places: [u8; MAX_MACHINES],
     e: usize,
 ) -> Option<usize>
     requires { (machines ≤ 16) × (e < 64) }
-    ensures { MatchOption result (lowest (blocks_at moves.now.pre places e) machines ≡ none) (λ m. lowest (blocks_at moves.now.pre places e) machines ≡ some m) }
+    ensures { MatchOption result (lowest (blocks_at pre.now places e) machines ≡ none) (λ m. lowest (blocks_at pre.now places e) machines ≡ some m) }
 {
     let at = e * MAX_MACHINES;
     for m in 0..machines {
-        let from = moves.pre[at + m];
+        let from = pre[at + m];
         if !is_ready(from < PLACE_BOUND, from, places[m]) {
             return Some(m);
         }
@@ -150,7 +150,7 @@ fn step(
         };
     }
     Stepped {
-        blocker: blocking_machine(moves, machines, places, e),
+        blocker: blocking_machine(&moves.pre, machines, places, e),
         places,
     }
 }

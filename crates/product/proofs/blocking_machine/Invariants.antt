@@ -4,4 +4,4 @@ use Rattle.product.specs.Stepping.{blocks_at}
 use Rattle.product.proofs.blocking_machine.Given as goal
 
 abbrev pub invariant-loop-m : goal.invariant-loop-m
-invariant-loop-m l = (k : ℕ) → k < l.m → T (not (blocks_at l.moves.pre l.places l.e k))
+invariant-loop-m l = (k : ℕ) → k < l.m → T (not (blocks_at l.pre l.places l.e k))
