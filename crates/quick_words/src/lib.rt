@@ -43,7 +43,7 @@ fn eight_bytes(s: &[u8], at: usize) -> [u8; 8]
 }
 
 // The eight bytes at a position as a number in base 256.
-fn big_endian(s: &[u8], at: usize) -> u64
+pub fn big_endian(s: &[u8], at: usize) -> u64
     requires { at + 8 ≤ length s.now }
     ensures { result ≡ packed (part s.now at 8) }
 {

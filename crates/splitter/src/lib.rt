@@ -5,6 +5,7 @@ pub use answers::RefusalNumbers;
 pub use board_service::{board, sheet};
 pub use check_service::check;
 pub use merge_service::merge;
+pub use model::{Refusal, Transition};
 pub use name_service::{name, name_refusal};
 pub use product::{Outcome, RunAnswer};
 pub use quote_service::quote;
