@@ -20,6 +20,6 @@ pub fn check_as_far_as_10(
     requires checked_sizes { CheckedSizes plan.now.source plan.now.event plan.now.target plan.now.duplicate plan.now.place × Fresh moves.old.pre moves.old.post excited.old }
     ensures { ChecksRows plan.now.counts plan.now.source plan.now.event plan.now.target plan.now.duplicate plan.now.place moves.new.pre moves.new.post excited.new result }
 {
-    check_transition_system(plan.counts, plan.transitions(), excited)?;
+    check_transition_system(&plan.counts, plan.transitions(), excited)?;
     check_regions(plan, moves)
 }

@@ -141,19 +141,26 @@ fn unreached_state(successors: &[u64], initial: u8, n: usize) -> Option<usize>
     if s < n { Some(s) } else { None }
 }
 
-// 4 to 7 in the paper's order, with a row of empty sets for the successors.
+// 4 to 7 in the paper's order, with a row of empty sets for the successors. The rows are three parameters, since a struct of them would lie in the stack of each call.
 fn check_with(
-    c: Counts,
-    transitions: Transitions,
+    c: &Counts,
+    source: &[u8],
+    event: &[u8],
+    target: &[u8],
     excited: &mut [u64; EXCITATION_WORDS],
     successors: &mut [u64],
 ) -> Result<(), Refusal>
-    requires bounded { let t = transitions in Bounded (system_rows c t.source.now t.event.now t.target.now) × Excitations [] excited.old }
-    requires transitions_in_bounds { let t = transitions in (c.transitions ≤ length t.source.now) × (c.transitions ≤ length t.event.now) × (c.transitions ≤ length t.target.now) }
-    requires successors { Successors [] successors.old × (c.states * 4 ≤ length successors.old) }
-    ensures result_value { let t = transitions.entry in verdict_refusal result ≡ system_refusal (system_of (system_rows c t.source.now t.event.now t.target.now)) }
-    ensures excitations { let t = transitions.entry in verdict_refusal result ≡ none → Excitations (system_of (system_rows c t.source.now t.event.now t.target.now)).transitions excited.new }
+    requires bounded { Bounded (system_rows c.now source.now event.now target.now) × Excitations [] excited.old }
+    requires transitions_in_bounds { (c.now.transitions ≤ length source.now) × (c.now.transitions ≤ length event.now) × (c.now.transitions ≤ length target.now) }
+    requires successors { Successors [] successors.old × (c.now.states * 4 ≤ length successors.old) }
+    ensures result_value { verdict_refusal result ≡ system_refusal (system_of (system_rows c.now source.now event.now target.now)) }
+    ensures excitations { verdict_refusal result ≡ none → Excitations (system_of (system_rows c.now source.now event.now target.now)).transitions excited.new }
 {
+    let transitions = Transitions {
+        source,
+        event,
+        target,
+    };
     add_transitions(transitions, c.transitions, excited, successors)?;
     if let Some(event) = unused_event(excited, c.events) {
         return Err(Refusal::UnusedEvent { event }); // 6 idle event
@@ -166,20 +173,25 @@ fn check_with(
 
 // 4 to 7. Passed, `excited` has the excitation set of each event.
 pub fn check_transition_system(
-    c: Counts,
+    c: &Counts,
     transitions: Transitions,
     excited: &mut [u64; EXCITATION_WORDS],
 ) -> Result<(), Refusal>
-    requires bounded { let t = transitions in Bounded (system_rows c t.source.now t.event.now t.target.now) × Excitations [] excited.old }
-    requires transitions_in_bounds { let t = transitions in (c.transitions ≤ length t.source.now) × (c.transitions ≤ length t.event.now) × (c.transitions ≤ length t.target.now) }
-    ensures result_value { let t = transitions.entry in verdict_refusal result ≡ system_refusal (system_of (system_rows c t.source.now t.event.now t.target.now)) }
-    ensures excitations { let t = transitions.entry in verdict_refusal result ≡ none → Excitations (system_of (system_rows c t.source.now t.event.now t.target.now)).transitions excited.new }
+    requires bounded { let t = transitions in Bounded (system_rows c.now t.source.now t.event.now t.target.now) × Excitations [] excited.old }
+    requires transitions_in_bounds { let t = transitions in (c.now.transitions ≤ length t.source.now) × (c.now.transitions ≤ length t.event.now) × (c.now.transitions ≤ length t.target.now) }
+    ensures result_value { let t = transitions.entry in verdict_refusal result ≡ system_refusal (system_of (system_rows c.now t.source.now t.event.now t.target.now)) }
+    ensures excitations { let t = transitions.entry in verdict_refusal result ≡ none → Excitations (system_of (system_rows c.now t.source.now t.event.now t.target.now)).transitions excited.new }
 {
+    let Transitions {
+        source,
+        event,
+        target,
+    } = transitions;
     if c.states <= FEW_STATES {
         let mut few = [0u64; FEW_SUCCESSOR_WORDS];
-        check_with(c, transitions, excited, &mut few)
+        check_with(c, source, event, target, excited, &mut few)
     } else {
         let mut successors = [0u64; SUCCESSOR_WORDS];
-        check_with(c, transitions, excited, &mut successors)
+        check_with(c, source, event, target, excited, &mut successors)
     }
 }
