@@ -14,9 +14,9 @@
  * is code for x86-64 only (System V calls, SSE2, red zone). In bytes, at most:
  *
  *                     code     stack
- *     board_sheet    6,144     7,168
- *     board_run      7,168     7,168
- *     both           7,168     7,168
+ *     board_sheet    6,144     6,144
+ *     board_run      7,168     6,144
+ *     both           7,168     6,144
  *
  * Both are measured, not proved, and rounded up; tests/library/check measures again, as split.h
  * says. What a signal or an interrupt takes comes on top.

@@ -19,9 +19,9 @@
  *     split_run     15,360    61,440
  *     split_thin    15,360    92,160
  *     split_merge   19,456    93,184
- *     split_quote   17,408    93,184
- *     split_sheet    6,144     7,168
- *     split_board    7,168     7,168
+ *     split_quote   17,408    92,160
+ *     split_sheet    6,144     6,144
+ *     split_board    7,168     6,144
  *     all nine      35,840    93,184
  *
  * Both are measured, not proved, and rounded up; tests/library/check measures again. Code is what

@@ -19,7 +19,8 @@ use writers::write_bytes;
 const LONGEST: usize = 2566;
 
 // The quotation of the machines that are kept into the first bytes of the lent buffer, if it is long enough. It is written beside the buffer first,
-// since its length is known only then.
+// since its length is known only then; and apart from the call, so that what is written does not lie in the stack below the thinning.
+#[inline(never)]
 fn hand_over_quotation(
     text: &[u8],
     plan: &Tables,

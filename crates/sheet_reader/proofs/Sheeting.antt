@@ -66,12 +66,12 @@ module _ (t : Lent) (ps : List ℕ) (f : FreshBoard t ps) where
 
 -- ---- the loop
 
-pub fresh_sheet : {names : Names} {moves : Moves} → names ≡ no_names → NoMoves moves → FreshSheet (record { names = names; moves = moves; starts = replicate 16 0 })
+pub fresh_sheet : {names : Names} {moves : Moves} → names ≡ no_names → moves.pre ≡ replicate 1024 255 → length moves.post ≡ 1024 → FreshSheet (record { names = names; moves = moves; starts = replicate 16 0 })
 unfolding row
-fresh_sheet {names} {moves} e m =
+fresh_sheet {names} {moves} e pre size =
     rw e (record {
       no_names = refl;
-      rows = record { lens = refl; highs = refl; lows = refl; pre = m.pre; post_size = ap length m.post ∙ length-replicate {A = ℕ} 1024 0; places = refl };
+      rows = record { lens = refl; highs = refl; lows = refl; pre = pre; post_size = size; places = refl };
     })
 
 pub told_holding : {b : Board} {count : ℕ} {t : Lent} → Told b count t → Holding count t

@@ -24,7 +24,7 @@ pub struct SheetRows {
 
 impl SheetRows {
     // No sheet is read into them yet. Apart from its caller, in whose frame the compiler would keep the rows twice, and written out, since it would keep those of
-    // `Names::none` and `Moves::none` twice too.
+    // `Names::none` and `Moves::none` twice too. Both rows of moves have one filling, so that they are cleared where they lie: with 0 in one of them they are made beside it and copied.
     #[inline(never)]
     pub fn fresh() -> SheetRows
         ensures { FreshSheet result }
@@ -39,7 +39,7 @@ impl SheetRows {
             },
             moves: Moves {
                 pre: [NOT_ON; MOVES],
-                post: [0; MOVES],
+                post: [NOT_ON; MOVES],
             },
             starts: [0; MAX_MACHINES],
         }
