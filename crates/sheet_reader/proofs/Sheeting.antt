@@ -28,7 +28,6 @@ use Rattle.sheet_reader.specs.Lines.{Told, LineLeft, good, bad, ReadsLine}
 use Rattle.names.specs.declared.Names.{Names}
 use Rattle.names.specs.Held.{no_names}
 use Rattle.rows.specs.declared.Moves.{Moves}
-use Rattle.rows.specs.Tables.{NoMoves}
 use Rattle.sheet_reader.specs.Sheets.{FreshBoard, FreshSheet, SheetLeft, ReadsSheet}
 
 -- ---- fresh rows
