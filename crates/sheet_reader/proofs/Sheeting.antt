@@ -65,7 +65,8 @@ module _ (t : Lent) (ps : List ℕ) (f : FreshBoard t ps) where
 
 -- ---- the loop
 
-pub fresh_sheet : {names : Names} {moves : Moves} → names ≡ no_names → moves.pre ≡ replicate 1024 255 → length moves.post ≡ 1024 → FreshSheet (record { names = names; moves = moves; starts = replicate 16 0 })
+pub fresh_sheet : {names : Names} {moves : Moves} → names ≡ no_names → moves.pre ≡ replicate 1024 255 → length moves.post ≡ 1024
+    → FreshSheet (record { names = names; moves = moves; starts = replicate 16 0 })
 unfolding row
 fresh_sheet {names} {moves} e pre size =
     rw e (record {
